@@ -1,0 +1,89 @@
+// Runs requests from standard input, one a line, and writes an answer for each: a letter, then
+// decimal numbers parted by single spaces. tests/second writes the requests and what the answers
+// must be.
+
+mod requests;
+mod show;
+mod table;
+
+use libc::STDIN_FILENO;
+
+// The line read so far: its letter, the numbers that ended, and the number that has begun.
+pub(crate) struct Line {
+    pub(crate) letter: u8,
+    pub(crate) numbers: [u64; 8],
+    pub(crate) count: usize,
+    pub(crate) digits: u64,
+}
+
+fn empty() -> Line {
+    Line {
+        letter: 0,
+        numbers: [0; 8],
+        count: 0,
+        digits: 0,
+    }
+}
+
+// The line with the number that has begun put behind the others.
+fn ended(line: Line) -> Line {
+    let mut next = line;
+    let at = line.count;
+    if at < 8 {
+        next.numbers[at] = line.digits;
+        next.count = at + 1;
+    }
+    next.digits = 0;
+    next
+}
+
+// The line with one byte more. At a line feed the request is run, and a new line begins.
+fn fed(line: Line, b: u8) -> Line {
+    let mut next = line;
+    if b == b'\n' {
+        requests::run(ended(line));
+        return empty();
+    }
+    if b == b' ' {
+        // The space behind the letter ends no number.
+        if line.count == 0 {
+            next.count = 1;
+            return next;
+        }
+        return ended(line);
+    }
+    if b < b'0' || b'9' < b {
+        next.letter = b;
+        return next;
+    }
+    // 2^64 - 1 is 1844674407370955161 times 10 and 5.
+    let tens = line.digits % 1844674407370955162 * 10;
+    next.digits = std::num::wrapping_add_u64(tens, (b - b'0') as u64);
+    next
+}
+
+// A read of one buffer: how many bytes came, and the line after them.
+fn fed_all(line: Line, bytes: &[u8]) -> Line {
+    let mut next = line;
+    let mut i = 0;
+    while i < bytes.len() {
+        next = fed(next, bytes[i]);
+        i += 1;
+    }
+    next
+}
+
+fn main() {
+    let mut buffer = io::large_buffer();
+    let mut line = empty();
+    // At most so many buffers, since a program has to end.
+    let mut left: u64 = 1000000;
+    while left > 0 {
+        let n = io::read_full(STDIN_FILENO, &mut buffer);
+        if n == 0 {
+            return;
+        }
+        line = fed_all(line, &buffer[..n]);
+        left -= 1;
+    }
+}

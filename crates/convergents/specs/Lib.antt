@@ -1,0 +1,6 @@
+-- What rounding a ratio means.
+pub mod Choice
+pub mod Pairs
+pub mod Convergents
+pub mod Rounding
+pub mod Best

@@ -1,0 +1,217 @@
+-- Laws of formats: what a known format says of its k, and that each is a limit. Assumes nothing.
+use mathlib.Core.Path.{_≡_, refl, sym, ap, ap₂, _∙_}
+use mathlib.Core.Logic.{_⊎_, inl, inr}
+use mathlib.Core.Bool.{Bool, true, false, _&&_}
+use Prim.Native.Nat.{ℕ, zero, suc, _+_, _-_, _*_, _^_, _≤_, _<_}
+use native.Mathlib.Omega.{arith}
+use native.Mathlib.Decide.{ℕ-discrete}
+use lib.Dec.{ltb, leb, eqb}
+use lib.Pow.{pow-pos, pow-mono}
+use borrow.Author.Tests.{ltb-false, leb-true, eqb-true, lt-ltb, le-ltb, le-leb, lt-leb, eq-eqb, ne-eqb}
+use Rattle.convergents.specs.Choice.{if_then_else_}
+use Rattle.convergents.specs.Pairs.{pair}
+use Rattle.convergents.specs.Rounding.{Limit, held}
+use Rattle.convergents.proofs.Optimal.{held-is}
+use Rattle.slash.specs.Answers.{Outcome, stop, done}
+use Rattle.slash.specs.Bits.{bitCount, leastPower}
+use Rattle.slash.specs.Formats.{isFixed, isFloating, known, ofKnown, makeFormat, slashBits, widthOf, holds, largestNumerator, largestDenominator}
+use Rattle.slash.specs.declared.answer.Stop.{Stop}
+use Rattle.slash.specs.declared.format.Format.{Format}
+use Rattle.slash.proofs.BitLaws.{least-power, least-count, bit-count-lt, bit-count-le, bit-count-pos, bit-count-mono, bit-count-zero}
+
+-- ---- answers
+
+-- a stop made by `Stop::plain`
+pub plain-stop : {A : Type 0} (s : Stop) (n : ℕ) {o : Outcome A} → s ≡ record { number = n; place = 0 } → stop n 0 ≡ o → stop (s .number) (s .place) ≡ o
+plain-stop s n e h = ap (λ (t : Stop). stop (t .number) (t .place)) e ∙ h
+
+module _ {A : Type 0} (f : Format) (x : A) where
+  pub of-known : known f ≡ true → done x ≡ ofKnown f x
+  unfolding ofKnown
+  of-known h = rw h refl
+
+  pub of-unknown : known f ≡ false → stop 1 0 ≡ ofKnown f x
+  unfolding ofKnown
+  of-unknown h = rw h refl
+
+pub make-known : (kind k : ℕ) → known (record { kind = kind; k = k }) ≡ true → done (record { kind = kind; k = k }) ≡ makeFormat kind k
+unfolding makeFormat
+make-known kind k h = of-known _ _ h
+
+pub make-unknown : (kind k : ℕ) → known (record { kind = kind; k = k }) ≡ false → stop 1 0 ≡ makeFormat kind k
+unfolding makeFormat
+make-unknown kind k h = of-unknown _ _ h
+
+-- ---- which formats are known, one law for each way through `is_known`
+
+module _ (f : Format) where
+  pub known-small : f .k < 2 → false ≡ known f
+  unfolding known
+  known-small h = rw (lt-ltb _ _ h) refl
+
+  pub known-fixed : 2 ≤ f .k → f .kind ≡ 1 → leb (f .k) 31 ≡ known f
+  unfolding known
+  known-fixed h e = rw (le-ltb _ _ h, eq-eqb _ _ e) refl
+
+  pub known-floating : 2 ≤ f .k → (f .kind ≡ 1 → ⊥) → f .kind ≡ 2 → leb (f .k) 32 ≡ known f
+  unfolding known
+  known-floating h n e = rw (le-ltb _ _ h, ne-eqb _ _ n, eq-eqb _ _ e) refl
+
+  pub known-neither : 2 ≤ f .k → (f .kind ≡ 1 → ⊥) → (f .kind ≡ 2 → ⊥) → false ≡ known f
+  unfolding known
+  known-neither h n m = rw (le-ltb _ _ h, ne-eqb _ _ n, ne-eqb _ _ m) refl
+
+  bounds : (a b c : Bool) → ltb (f .k) 2 ≡ a
+      → (if a then false else if b then leb (f .k) 31 else if c then leb (f .k) 32 else false) ≡ true
+      → (2 ≤ f .k) × (f .k ≤ 32) × (b ≡ true → f .k ≤ 31)
+  bounds true b c e h = let z : _≡_ {A = ℕ} 0 1 = cc in omega arith
+  bounds false true c e h =
+      (ltb-false _ 2 e, omega (arith, leb-true (f .k) 31 h), λ t. leb-true (f .k) 31 h)
+  bounds false false true e h =
+      (ltb-false _ 2 e, leb-true (f .k) 32 h, λ t. let z : _≡_ {A = ℕ} 0 1 = cc in omega arith)
+  bounds false false false e h = let z : _≡_ {A = ℕ} 0 1 = cc in omega arith
+
+  module _ (h : known f ≡ true) where
+    pub known-k : (2 ≤ f .k) × (f .k ≤ 32)
+    unfolding known
+    known-k = let b = bounds (ltb (f .k) 2) (isFixed f) (isFloating f) refl h in (b .0, b .1)
+
+    pub fixed-k : f .kind ≡ 1 → f .k ≤ 31
+    unfolding known
+    fixed-k e = let b = bounds (ltb (f .k) 2) (isFixed f) (isFloating f) refl h in b .2 (eq-eqb _ _ e)
+
+-- ---- widths and parts
+
+pub slash-bits-is : (k b : ℕ) → 2 ≤ k → b ≡ bitCount (k - 1) → b ≡ slashBits k
+unfolding slashBits
+slash-bits-is k b h e = e ∙ least-count k h
+
+-- k ≤ 2^L, and for k from 2 to 32 L is from 1 to 5
+pub slash-bits-enough : (k : ℕ) → k ≤ 2 ^ slashBits k
+unfolding slashBits
+slash-bits-enough k = least-power k .enough
+
+pub slash-bits-le : (k : ℕ) → k ≤ 32 → slashBits k ≤ 5
+unfolding slashBits
+slash-bits-le k h = least-power k .least 5 h
+
+pub slash-bits-pos : (k : ℕ) → 2 ≤ k → 1 ≤ slashBits k
+slash-bits-pos k h = go (slashBits k) refl
+  where
+    go : (b : ℕ) → slashBits k ≡ b → 1 ≤ slashBits k
+    go zero e = let l : k ≤ 2 ^ 0 = rw e at (slash-bits-enough k) in absurd (omega arith)
+    go (suc b) e = omega arith
+
+module _ (f : Format) where
+  pub width-fixed : f .kind ≡ 1 → 2 * f .k + 2 ≡ widthOf f
+  unfolding widthOf
+  width-fixed e = rw (eq-eqb _ _ e) refl
+
+  pub width-floating : (f .kind ≡ 1 → ⊥) → (b : ℕ) → b ≡ slashBits (f .k) → f .k + b + 1 ≡ widthOf f
+  unfolding widthOf
+  width-floating n b e = rw (ne-eqb _ _ n, e) refl
+
+  pub largest-fixed : f .kind ≡ 1 → (p : ℕ) → p ≡ 2 ^ f .k → (p - 1 ≡ largestNumerator f) × (p - 1 ≡ largestDenominator f)
+  unfolding largestNumerator largestDenominator
+  largest-fixed e p h = (rw (eq-eqb _ _ e, h) refl, rw (eq-eqb _ _ e, h) refl)
+
+  pub largest-floating : (f .kind ≡ 1 → ⊥) → (p : ℕ) → p ≡ 2 ^ (f .k - 1) → (p - 1 ≡ largestNumerator f) × (p - 1 ≡ largestDenominator f)
+  unfolding largestNumerator largestDenominator
+  largest-floating n p h = (rw (ne-eqb _ _ n, h) refl, rw (ne-eqb _ _ n, h) refl)
+
+  -- a word has from 1 to 64 bits
+  pub width-range : known f ≡ true → (0 < widthOf f) × (widthOf f < 65)
+  width-range h = go (ℕ-discrete (f .kind) 1)
+    where
+      go : Dec (f .kind ≡ 1) → (0 < widthOf f) × (widthOf f < 65)
+      go (yes e) = omega (arith, width-fixed e, fixed-k f h e)
+      go (no n) = omega (arith, width-floating n _ refl, known-k f h, slash-bits-le (f .k) (known-k f h .1))
+
+-- ---- what a format holds
+
+and-parts : (a b : Bool) → (a && b) ≡ true → (a ≡ true) × (b ≡ true)
+and-parts true b h = (refl, h)
+and-parts false b h = let z : _≡_ {A = ℕ} 0 1 = cc in absurd (omega arith)
+
+module _ (f : Format) (r s : ℕ) where
+  -- the answers of `is_held`
+  module _ (e : f .kind ≡ 1) (p : ℕ) (h : p ≡ 2 ^ f .k) where
+    pub holds-fixed : r ≤ p - 1 → leb s (p - 1) ≡ holds f r s
+    unfolding holds
+    holds-fixed l = rw (eq-eqb _ _ e, ← h, le-leb _ _ l) refl
+
+    pub holds-fixed-not : p - 1 < r → false ≡ holds f r s
+    unfolding holds
+    holds-fixed-not l = rw (eq-eqb _ _ e, ← h, lt-leb _ _ l) refl
+
+  pub holds-floating : (f .kind ≡ 1 → ⊥) → (a b : ℕ) → a ≡ bitCount r → b ≡ bitCount s → leb (a + b) (f .k) ≡ holds f r s
+  unfolding holds
+  holds-floating n a b ae be = rw (ne-eqb _ _ n, ae, be) refl
+
+  pub fixed-holds : f .kind ≡ 1 → holds f r s ≡ true → (r < 2 ^ f .k) × (s < 2 ^ f .k)
+  unfolding holds
+  fixed-holds e h =
+      let g : (leb r (2 ^ f .k - 1) && leb s (2 ^ f .k - 1)) ≡ true = rw (eq-eqb _ _ e) at h in
+      let w = and-parts (leb r (2 ^ f .k - 1)) (leb s (2 ^ f .k - 1)) g in
+      let a : r ≤ 2 ^ f .k - 1 = leb-true _ _ (w .0) in
+      let b : s ≤ 2 ^ f .k - 1 = leb-true _ _ (w .1) in
+      (omega (arith, pow-pos (f .k)), omega (arith, pow-pos (f .k)))
+
+  pub floating-holds : (f .kind ≡ 1 → ⊥) → holds f r s ≡ true → bitCount r + bitCount s ≤ f .k
+  floating-holds n h = leb-true _ _ (holds-floating n _ _ refl refl ∙ h)
+
+-- Each known format is a limit: it holds 1/1, and is closed downward.
+pub format-limit : (f : Format) → known f ≡ true → Limit (holds f)
+format-limit f h = go (ℕ-discrete (f .kind) 1)
+  where
+    k : (2 ≤ f .k) × (f .k ≤ 32)
+    k = known-k f h
+
+    fixed : f .kind ≡ 1 → Limit (holds f)
+    fixed e = record {
+      one =
+          let l : 1 ≤ 2 ^ f .k - 1 = omega (arith, pow-mono (k .0)) in
+          sym (holds-fixed f 1 1 e _ refl l) ∙ le-leb _ _ l;
+      downward =
+          λ r s r′ s′ t i j l.
+          let w = fixed-holds f r s e t in
+          let a : r′ ≤ 2 ^ f .k - 1 = omega arith in
+          let b : s′ ≤ 2 ^ f .k - 1 = omega arith in
+          sym (holds-fixed f r′ s′ e _ refl a) ∙ le-leb _ _ b;
+    }
+
+    floating : (f .kind ≡ 1 → ⊥) → Limit (holds f)
+    floating n = record {
+      one =
+          let l : bitCount 1 + bitCount 1 ≤ f .k = omega (arith, k .0, bit-count-le 1 1 (omega arith) (omega arith)) in
+          sym (holds-floating f 1 1 n _ _ refl refl) ∙ le-leb _ _ l;
+      downward =
+          λ r s r′ s′ t i j l.
+          let w = floating-holds f r s n t in
+          let a : bitCount r′ + bitCount s′ ≤ f .k = omega (arith, w, bit-count-mono i, bit-count-mono l) in
+          sym (holds-floating f r′ s′ n _ _ refl refl) ∙ le-leb _ _ a;
+    }
+
+    go : Dec (f .kind ≡ 1) → Limit (holds f)
+    go (yes e) = fixed e
+    go (no n) = floating n
+
+-- ---- the parts of a held pair, 1/0 included
+
+module _ (f : Format) (n d : ℕ) (h : known f ≡ true) (l : held (holds f) (pair n d) ≡ true) where
+  held-zero : d ≡ 0 → n ≡ 1
+  unfolding held
+  held-zero e = eqb-true n 1 (rw e at l)
+
+  held-some : 1 ≤ d → holds f n d ≡ true
+  held-some g = sym (held-is (holds f) n d g) ∙ l
+
+  pub fixed-parts : f .kind ≡ 1 → (n < 2 ^ f .k) × (d < 2 ^ f .k)
+  fixed-parts e = go (ℕ-discrete d 0)
+    where
+      go : Dec (d ≡ 0) → (n < 2 ^ f .k) × (d < 2 ^ f .k)
+      go (yes z) = (omega (arith, held-zero z, pow-mono (known-k f h .0)), omega (arith, pow-pos (f .k)))
+      go (no z) = fixed-holds f n d e (held-some (omega arith))
+
+  pub floating-parts : (f .kind ≡ 1 → ⊥) → 1 ≤ d → bitCount n + bitCount d ≤ f .k
+  floating-parts e g = floating-holds f n d e (held-some g)

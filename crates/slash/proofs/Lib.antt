@@ -1,0 +1,7 @@
+-- The laws that the functions' proofs cite.
+pub mod BitLaws
+pub mod FormatLaws
+pub mod RoundingLaws
+pub mod WordLaws
+pub mod RoundTrip
+pub mod WriteLaws

@@ -1,0 +1,233 @@
+-- Laws of reading and writing words, one for each way through the code. Assumes nothing.
+use mathlib.Core.Path.{_≡_, refl, sym, ap, _∙_}
+use mathlib.Core.Bool.{Bool, true, false, not, _&&_}
+use Prim.Native.Nat.{ℕ, suc, _+_, _-_, _*_, _/_, _%_, _^_, _≤_, _<_}
+use native.Mathlib.Omega.{arith}
+use native.Mathlib.Nat.{mod-lt, le-div-iff-mul-le, div-lt-iff-lt-mul}
+use lib.Dec.{leb, eqb}
+use lib.Arith.{digits-lt}
+use lib.Pow.{pow-pos, pow-mono, pow-add}
+use borrow.Author.Tests.{le-leb, lt-leb, leb-true, leb-false, eq-eqb, ne-eqb}
+use Rattle.convergents.specs.Choice.{if_then_else_}
+use Rattle.slash.specs.Answers.{Outcome, stop, done}
+use Rattle.slash.specs.Bits.{bitCount, bits, bit, bitOf, fields}
+use Rattle.slash.specs.Formats.{isFixed, known, slashBits, widthOf}
+use Rattle.slash.specs.Words.{fixedValue, fixedNumber, slashPosition, slashUndefined, floatingFraction, floatingSpecial, floatingNumber, numberOf, isAbove, wordStop, readWord, fixedWord, floatingWord, floatingPair, floatingNan}
+use Rattle.slash.specs.declared.format.Format.{Format}
+use Rattle.slash.specs.declared.number.Value.{Value}
+use Rattle.slash.specs.declared.number.Value.the-variants.{Fraction, Zero, Infinity, NotANumber}
+use Rattle.slash.specs.declared.number.Number.{Number}
+use Rattle.slash.proofs.BitLaws.{pow-next, bit-lt, bits-lt, bit-count-lt, bit-count-pos, bit-count-top}
+use Rattle.slash.proofs.FormatLaws.{slash-bits-enough}
+
+-- ---- fixed words
+
+module _ (s : Bool) (n d : ℕ) where
+  pub fixed-zero : n ≡ 0 → d % 2 ≡ 1 → Zero s ≡ fixedValue s n d
+  unfolding fixedValue
+  fixed-zero h g = rw (eq-eqb _ _ h, eq-eqb _ _ g) refl
+
+  pub fixed-nan-zero : n ≡ 0 → (d % 2 ≡ 1 → ⊥) → NotANumber ≡ fixedValue s n d
+  unfolding fixedValue
+  fixed-nan-zero h g = rw (eq-eqb _ _ h, ne-eqb _ _ g) refl
+
+  pub fixed-infinity : (n ≡ 0 → ⊥) → d ≡ 0 → n % 2 ≡ 1 → Infinity s ≡ fixedValue s n d
+  unfolding fixedValue
+  fixed-infinity h g e = rw (ne-eqb _ _ h, eq-eqb _ _ g, eq-eqb _ _ e) refl
+
+  pub fixed-nan-infinity : (n ≡ 0 → ⊥) → d ≡ 0 → (n % 2 ≡ 1 → ⊥) → NotANumber ≡ fixedValue s n d
+  unfolding fixedValue
+  fixed-nan-infinity h g e = rw (ne-eqb _ _ h, eq-eqb _ _ g, ne-eqb _ _ e) refl
+
+  pub fixed-fraction : (n ≡ 0 → ⊥) → (d ≡ 0 → ⊥) → Fraction (record { negative = s; numerator = n; denominator = d }) ≡ fixedValue s n d
+  unfolding fixedValue
+  fixed-fraction h g = rw (ne-eqb _ _ h, ne-eqb _ _ g) refl
+
+pub fixed-number : (k w : ℕ) (s : Bool) (n d : ℕ) (v : Value) (a : Bool) → s ≡ bit (2 * k + 1) w → n ≡ bits (k + 1) k w → d ≡ bits 0 k w
+    → v ≡ fixedValue s n d → a ≡ bit k w → record { value = v; approximate = a } ≡ fixedNumber k w
+unfolding fixedNumber
+fixed-number k w s n d v a se ne de ve ae = rw (ve, se, ne, de, ae) refl
+
+pub fixed-word : (k s t n a b d r : ℕ) → t ≡ s → b ≡ a → r ≡ fields t n k b 1 d k → r ≡ fixedWord k s n a d
+unfolding fixedWord
+fixed-word k s t n a b d r te be e = e ∙ rw (te, be) refl
+
+-- ---- floating words
+
+pub slash-is : (k w l r : ℕ) → l ≡ slashBits k → r ≡ bits (k - 1) l w → r ≡ slashPosition k w
+unfolding slashPosition
+slash-is k w l r le e = e ∙ rw le refl
+
+pub slash-lt : (k w : ℕ) → slashPosition k w < 2 ^ slashBits k
+unfolding slashPosition
+slash-lt k w = bits-lt (k - 1) (slashBits k) w
+
+module _ (k w e : ℕ) (h : e ≡ slashPosition k w) where
+  pub undefined-below : e < k - 1 → false ≡ slashUndefined k w
+  unfolding slashUndefined
+  undefined-below l = rw (← h, lt-leb _ _ l) refl
+
+  pub undefined-by : k - 1 ≤ e → (l p : ℕ) → l ≡ slashBits k → p ≡ 2 ^ l → leb e (p - 2) ≡ slashUndefined k w
+  unfolding slashUndefined
+  undefined-by g l p le pe = rw (← h, le-leb _ _ g, pe, le) refl
+
+module _ (s : Bool) (e f p : ℕ) (h : p ≡ 2 ^ e) where
+  pub floating-zero : f / p ≡ 0 → Zero s ≡ floatingFraction s e f
+  unfolding floatingFraction
+  floating-zero g = rw (← h, eq-eqb _ _ g) refl
+
+  pub floating-fraction : (f / p ≡ 0 → ⊥) → Fraction (record { negative = s; numerator = f / p; denominator = f % p + p }) ≡ floatingFraction s e f
+  unfolding floatingFraction
+  floating-fraction g = rw (← h, ne-eqb _ _ g) refl
+
+  pub floating-sum : e ≤ 30 → (0 < p) × (f % p + p < 2 ^ 32)
+  floating-sum l =
+      let z : 0 < p = omega (arith, pow-pos e) in
+      (z, omega (arith, mod-lt f z, pow-mono l))
+
+module _ (s : Bool) (f : ℕ) where
+  pub special-infinity : f % 2 ≡ 0 → Infinity s ≡ floatingSpecial s f
+  unfolding floatingSpecial
+  special-infinity h = rw (eq-eqb _ _ h) refl
+
+  pub special-nan : (f % 2 ≡ 0 → ⊥) → NotANumber ≡ floatingSpecial s f
+  unfolding floatingSpecial
+  special-nan h = rw (ne-eqb _ _ h) refl
+
+module _ (k w l : ℕ) (s a : Bool) (e f : ℕ) (v : Value) (le : l ≡ slashBits k) (se : s ≡ bit (k + l) w) (ae : a ≡ bit (k + l - 1) w)
+    (ee : e ≡ slashPosition k w) (fe : f ≡ bits 0 (k - 1) w) where
+  pub floating-number : e ≤ k - 2 → v ≡ floatingFraction s e f → record { value = v; approximate = a } ≡ floatingNumber k w
+  unfolding floatingNumber
+  floating-number h ve = rw (← le, ← se, ← ae, ← ee, ← fe, le-leb _ _ h, ve) refl
+
+  pub floating-special : k - 2 < e → v ≡ floatingSpecial s f → record { value = v; approximate = a } ≡ floatingNumber k w
+  unfolding floatingNumber
+  floating-special h ve = rw (← le, ← se, ← ae, ← ee, ← fe, lt-leb _ _ h, ve) refl
+
+-- the special slash position fits
+pub special-lt : (k r : ℕ) → r ≡ 2 ^ slashBits k - 1 → r < 2 ^ slashBits k
+special-lt k r e = omega (arith, pow-pos (slashBits k))
+
+pub floating-fields : (k s a e f l r : ℕ) → l ≡ slashBits k → r ≡ fields s a 1 e l f (k - 1) → r ≡ floatingWord k s a e f
+unfolding floatingWord
+floating-fields k s a e f l r le re = re ∙ rw le refl
+
+module _ (k s a n d : ℕ) where
+  pub pair-infinity : d ≡ 0 → (t b e r : ℕ) → t ≡ s → b ≡ a → e ≡ 2 ^ slashBits k - 1 → r ≡ floatingWord k t b e 0 → r ≡ floatingPair k s a n d
+  unfolding floatingPair
+  pair-infinity z t b e r te be ee re = rw (eq-eqb _ _ z, re, te, be, ee) refl
+
+  pub pair-fraction : (d ≡ 0 → ⊥) → (t b c p r : ℕ) → t ≡ s → b ≡ a → c ≡ bitCount d → p ≡ 2 ^ (c - 1)
+      → r ≡ floatingWord k t b (c - 1) (n * p + (d - p)) → r ≡ floatingPair k s a n d
+  unfolding floatingPair
+  pair-fraction z t b c p r te be ce pe re = rw (ne-eqb _ _ z, re, te, be, pe, ce) refl
+
+-- the field of n/d fits k - 1 bits, and the slash position L bits
+module _ (k n d : ℕ) (pos : 1 ≤ d) (h : bitCount n + bitCount d ≤ k) where
+  pub pair-field : n * 2 ^ (bitCount d - 1) + (d - 2 ^ (bitCount d - 1)) < 2 ^ (k - 1)
+  pair-field =
+      let e : ℕ = bitCount d - 1 in
+      let top : d < 2 ^ e + 2 ^ e = omega (arith, bit-count-lt d, bit-count-pos d, double) in
+      let low : d - 2 ^ e < 2 ^ e = omega (arith, bit-count-top d pos) in
+      let all : n * 2 ^ e + (d - 2 ^ e) < 2 ^ bitCount n * 2 ^ e = digits-lt (bit-count-lt n) low in
+      let g : bitCount n + e ≤ k - 1 = omega (arith, bit-count-pos d) in
+      omega (arith, pow-add 2 (bitCount n) e, pow-mono g)
+    where
+      double : 2 ^ bitCount d ≡ 2 * 2 ^ (bitCount d - 1)
+      double =
+          let e : bitCount d ≡ bitCount d - 1 + 1 = omega (arith, bit-count-pos d) in
+          ap (λ (j : ℕ). 2 ^ j) e ∙ pow-next (bitCount d - 1)
+
+  pub pair-slash : bitCount d - 1 < 2 ^ slashBits k
+  pair-slash = omega (arith, bit-count-pos n, bit-count-pos d, slash-bits-enough k)
+
+-- the same, of what the code has: the bit count c of d, and the power p of the slash position
+pub record Parted (k n d c p : ℕ) : Type 0 where
+  pub low : 1 ≤ c
+  pub high : c ≤ 32
+  pub leading : p ≤ d
+  pub position : c - 1 < 2 ^ slashBits k
+  pub fits : n * p + (d - p) < 2 ^ (k - 1)
+  pub small : n * p + (d - p) < 2 ^ 32
+
+pub parted : (k n d c p : ℕ) → k ≤ 32 → 1 ≤ d → bitCount n + bitCount d ≤ k → c ≡ bitCount d → p ≡ 2 ^ (c - 1) → Parted k n d c p
+parted k n d c p hk pos h ce pe =
+    let e : p ≡ 2 ^ (bitCount d - 1) = pe ∙ ap (λ (j : ℕ). 2 ^ (j - 1)) ce in
+    let f : n * p + (d - p) < 2 ^ (k - 1) = rw e (pair-field k n d pos h) in
+    let i : k - 1 ≤ 32 = omega arith in
+    record {
+      low = omega (arith, bit-count-pos d);
+      high = omega (arith, bit-count-pos n);
+      leading = rw e (bit-count-top d pos);
+      position = rw ce (pair-slash k n d pos h);
+      fits = f;
+      small = omega (arith, pow-mono i);
+    }
+
+-- ---- checks
+
+pub above-is : (width w : ℕ) → 0 < width → leb 2 (w / 2 ^ (width - 1)) ≡ isAbove width w
+unfolding isAbove
+above-is width w h = go (leb 2 (w / 2 ^ (width - 1))) refl
+  where
+    double : 2 ^ width ≡ 2 * 2 ^ (width - 1)
+    double =
+        let e : width ≡ width - 1 + 1 = omega arith in
+        ap (λ (j : ℕ). 2 ^ j) e ∙ pow-next (width - 1)
+
+    go : (b : Bool) → leb 2 (w / 2 ^ (width - 1)) ≡ b → leb 2 (w / 2 ^ (width - 1)) ≡ leb (2 ^ width) w
+    go true e =
+        let l : 2 ^ width ≤ w =
+        omega (arith, double, le-div-iff-mul-le {k = 2 ^ (width - 1)} {x = 2} {y = w} (pow-pos (width - 1)) .0 (leb-true _ _ e))
+        in
+        e ∙ sym (le-leb _ _ l)
+    go false e =
+        let l : w < 2 ^ width =
+        omega (arith, double, div-lt-iff-lt-mul {k = 2 ^ (width - 1)} {x = w} {y = 2} (pow-pos (width - 1)) .0 (leb-false _ _ e))
+        in
+        e ∙ sym (lt-leb _ _ l)
+
+-- what `is_above` answers of the width that `word_bits` gives
+pub above-case : (f : Format) (w width : ℕ) (b : Bool) {c : Bool} → width ≡ widthOf f → b ≡ isAbove width w → b ≡ c → isAbove (widthOf f) w ≡ c
+above-case f w width b e h g = ap (λ (j : ℕ). isAbove j w) (sym e) ∙ sym h ∙ g
+
+-- the answers of `word_stop`
+module _ (f : Format) (w : ℕ) where
+  pub stop-above : isAbove (widthOf f) w ≡ true → 4 ≡ wordStop f w
+  unfolding wordStop
+  stop-above g = rw g refl
+
+  module _ (g : isAbove (widthOf f) w ≡ false) where
+    pub stop-fixed : f .kind ≡ 1 → 0 ≡ wordStop f w
+    unfolding wordStop
+    stop-fixed e = rw (g, eq-eqb _ _ e) refl
+
+    pub stop-undefined : (f .kind ≡ 1 → ⊥) → slashUndefined (f .k) w ≡ true → 5 ≡ wordStop f w
+    unfolding wordStop
+    stop-undefined n u = rw (g, ne-eqb _ _ n, u) refl
+
+    pub stop-none : (f .kind ≡ 1 → ⊥) → slashUndefined (f .k) w ≡ false → 0 ≡ wordStop f w
+    unfolding wordStop
+    stop-none n u = rw (g, ne-eqb _ _ n, u) refl
+
+  pub number-fixed : f .kind ≡ 1 → fixedNumber (f .k) w ≡ numberOf f w
+  unfolding numberOf
+  number-fixed e = rw (eq-eqb _ _ e) refl
+
+  pub number-floating : (f .kind ≡ 1 → ⊥) → floatingNumber (f .k) w ≡ numberOf f w
+  unfolding numberOf
+  number-floating n = rw (ne-eqb _ _ n) refl
+
+  -- the answers of `read`
+  pub read-unknown : known f ≡ false → stop 1 0 ≡ readWord f w
+  unfolding readWord
+  read-unknown h = rw h refl
+
+  module _ (h : known f ≡ true) (s : ℕ) (e : s ≡ wordStop f w) where
+    pub read-stop : (s ≡ 0 → ⊥) → stop s 0 ≡ readWord f w
+    unfolding readWord
+    read-stop n = rw (h, ← e, ne-eqb _ _ n) refl
+
+    pub read-done : s ≡ 0 → (x : Number) → x ≡ numberOf f w → done x ≡ readWord f w
+    unfolding readWord
+    read-done z x xe = rw (h, ← e, eq-eqb _ _ z, xe) refl

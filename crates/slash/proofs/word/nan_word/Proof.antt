@@ -1,0 +1,23 @@
+use Rattle.slash.proofs.RoundTrip.{nan-fixed, nan-floating}
+use mathlib.Core.Path.{_∙_}
+use Rattle.slash.proofs.FormatLaws.{known-k}
+use Rattle.slash.proofs.word.nan_word.Statement.{statement}
+use Rattle.slash.proofs.word.nan_word.Tie as tie
+use Rattle.slash.proofs.word.nan_word.Reads as reads
+use Rattle.slash.proofs.word.nan_word.Lts as lts
+use Rattle.slash.proofs.floating.not_a_number.Reads as not-a-number-reads
+
+-- src/word.rt:72:9
+not-a-number-requires : tie.Need-not-a-number-requires
+not-a-number-requires c κs = known-k _ (c .before .before .pre)
+
+-- src/word.rt:65:1
+returns : tie.Need-returns
+returns c = nan-fixed _ (c .if1 .taken)
+
+-- src/word.rt:65:1
+returns-2 : tie.Need-returns-2
+returns-2 c = c .not-a-number .ensures ∙ nan-floating _ (c .before .if1 .left)
+
+pub nan-word-spec : {M : Type 1} → statement M
+nan-word-spec = tie.close (tie.spec not-a-number-requires returns returns-2)

@@ -1,0 +1,42 @@
+-- What a call comes to, in the paper's terms. Each answer of the library is an enum with two cases, Done and Stopped; here is what each of
+-- its cases says.
+use Prim.Native.Nat.{ℕ}
+use Rattle.slash.specs.declared.answer.Stop.{Stop}
+use Rattle.slash.specs.declared.answer.Answer.{Answer}
+use Rattle.slash.specs.declared.answer.Answer.the-variants as Answer
+use Rattle.slash.specs.declared.format.Format.{Format}
+use Rattle.slash.specs.declared.format.Made.{Made}
+use Rattle.slash.specs.declared.format.Made.the-variants as Made
+use Rattle.slash.specs.declared.number.Number.{Number}
+use Rattle.slash.specs.declared.word.Reading.{Reading}
+use Rattle.slash.specs.declared.word.Reading.the-variants as Reading
+use Rattle.slash.specs.declared.rounding.Rounded.{Rounded}
+use Rattle.slash.specs.declared.rounding.Rounding.{Rounding}
+use Rattle.slash.specs.declared.rounding.Rounding.the-variants as Rounding
+
+-- A call stops, with a number and a place and nothing more, or is done, with what it makes.
+pub data Outcome (A : Type 0) : Type 0 where
+  stop : (number place : ℕ) → Outcome A
+  done : A → Outcome A
+
+-- What holds of what a call makes, where it is done.
+abbrev pub WhenDone : {A : Type 0} → Outcome A → (A → Type 0) → Type 0
+WhenDone (stop number place) P = Unit {0}
+WhenDone (done x) P = P x
+
+-- The outcome that each answer stands for.
+abbrev pub outcome : Answer → Outcome ℕ
+outcome (Answer.Done n) = done n
+outcome (Answer.Stopped s) = stop (s .number) (s .place)
+
+abbrev pub madeOutcome : Made → Outcome Format
+madeOutcome (Made.Done f) = done f
+madeOutcome (Made.Stopped s) = stop (s .number) (s .place)
+
+abbrev pub readingOutcome : Reading → Outcome Number
+readingOutcome (Reading.Done x) = done x
+readingOutcome (Reading.Stopped s) = stop (s .number) (s .place)
+
+abbrev pub roundingOutcome : Rounding → Outcome Rounded
+roundingOutcome (Rounding.Done x) = done x
+roundingOutcome (Rounding.Stopped s) = stop (s .number) (s .place)

@@ -1,0 +1,52 @@
+-- Formats: which there are, how wide their words are, and which pairs they hold.
+use Prim.Native.Nat.{ℕ, _+_, _-_, _*_, _^_}
+use mathlib.Core.Bool.{Bool, false, _&&_}
+use lib.Dec.{ltb, leb, eqb}
+use Rattle.convergents.specs.Choice.{if_then_else_}
+use Rattle.slash.specs.Answers.{Outcome, stop, done}
+use Rattle.slash.specs.Bits.{leastPower, bitCount}
+use Rattle.slash.specs.declared.format.Format.{Format}
+
+-- Kind 1 is fixed; kind 2 is floating.
+abbrev pub isFixed : Format → Bool
+isFixed f = eqb (f .kind) 1
+
+abbrev pub isFloating : Format → Bool
+isFloating f = eqb (f .kind) 2
+
+-- k runs from 2 to 31 in fixed formats, and to 32 in floating ones.
+unfoldable pub known : Format → Bool
+known f =
+    if ltb (f .k) 2 then false else
+    if isFixed f then leb (f .k) 31 else
+    if isFloating f then leb (f .k) 32 else
+    false
+
+-- Stop 1 for an unknown kind or k, before anything else.
+unfoldable pub ofKnown : {A : Type 0} → Format → A → Outcome A
+ofKnown f x = if known f then done x else stop 1 0
+
+unfoldable pub makeFormat : ℕ → ℕ → Outcome Format
+makeFormat kind k = let f : Format = record { kind = kind; k = k } in ofKnown f f
+
+-- L: the least whole number with 2^L ≥ k.
+unfoldable pub slashBits : ℕ → ℕ
+slashBits k = leastPower k
+
+-- A fixed word has 2k + 2 bits, a floating one k + L + 1.
+unfoldable pub widthOf : Format → ℕ
+widthOf f = if isFixed f then 2 * f .k + 2 else f .k + slashBits (f .k) + 1
+
+-- A format holds the pair r/s, s at least 1, if, fixed, both are at most 2^k - 1, or, floating, their bit counts sum to at most k.
+-- (It also holds 1/0: `held`.)
+unfoldable pub holds : Format → ℕ → ℕ → Bool
+holds f r s =
+    if isFixed f then leb r (2 ^ f .k - 1) && leb s (2 ^ f .k - 1)
+    else leb (bitCount r + bitCount s) (f .k)
+
+-- The largest parts of the pairs that it holds.
+unfoldable pub largestNumerator : Format → ℕ
+largestNumerator f = if isFixed f then 2 ^ f .k - 1 else 2 ^ (f .k - 1) - 1
+
+unfoldable pub largestDenominator : Format → ℕ
+largestDenominator f = if isFixed f then 2 ^ f .k - 1 else 2 ^ (f .k - 1) - 1

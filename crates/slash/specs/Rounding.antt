@@ -1,0 +1,24 @@
+-- Rounding into a format.
+use Prim.Native.Nat.{ℕ}
+use lib.Dec.{eqb}
+use Rattle.convergents.specs.Choice.{if_then_else_}
+use Rattle.convergents.specs.Pairs.{Pair, differs}
+use Rattle.convergents.specs.Rounding.{round}
+use Rattle.slash.specs.Answers.{Outcome, stop, done}
+use Rattle.slash.specs.Formats.{known, holds}
+use Rattle.slash.specs.declared.format.Format.{Format}
+use Rattle.slash.specs.declared.rounding.Rounded.{Rounded}
+use mathlib.Core.Bool.{not}
+
+-- The last convergent of N/D that the format holds, marked if its value isn't N/D.
+unfoldable pub rounded : Format → ℕ → ℕ → Rounded
+rounded f N D =
+    let x : Pair = round (holds f) N D in
+    record { numerator = x .numerator; denominator = x .denominator; approximate = differs N D x }
+
+-- Stop 1, then 6 for denominator 0.
+unfoldable pub roundRatio : Format → ℕ → ℕ → Outcome Rounded
+roundRatio f N D =
+    if not (known f) then stop 1 0 else
+    if eqb D 0 then stop 6 0 else
+    done (rounded f N D)

@@ -1,0 +1,152 @@
+-- Words, each way.
+use Prim.Native.Nat.{ℕ, _+_, _-_, _*_, _/_, _%_, _^_}
+use mathlib.Core.Bool.{Bool, true, false, not, _&&_, _||_}
+use lib.Dec.{leb, eqb}
+use Rattle.convergents.specs.Choice.{if_then_else_}
+use Rattle.convergents.specs.Pairs.{Pair, pair, differs}
+use Rattle.convergents.specs.Rounding.{round}
+use Rattle.convergents.specs.Best.{Best}
+use Rattle.slash.specs.Answers.{Outcome, stop, done}
+use Rattle.slash.specs.Bits.{bitCount, bits, bit, bitOf, fields}
+use Rattle.slash.specs.Formats.{isFixed, known, slashBits, widthOf, holds}
+use Rattle.slash.specs.declared.format.Format.{Format}
+use Rattle.slash.specs.declared.number.Parts.{Parts}
+use Rattle.slash.specs.declared.number.Value.{Value}
+use Rattle.slash.specs.declared.number.Value.the-variants.{Fraction, Zero, Infinity, NotANumber}
+use Rattle.slash.specs.declared.number.Number.{Number}
+
+-- ---- reading
+
+-- Fixed. Both parts not 0: a fraction. Numerator 0 and denominator odd: zero. Denominator 0 and numerator odd: infinity. Otherwise
+-- not-a-number.
+unfoldable pub fixedValue : Bool → ℕ → ℕ → Value
+fixedValue s n d =
+    if eqb n 0 then (if eqb (d % 2) 1 then Zero s else NotANumber) else
+    if eqb d 0 then (if eqb (n % 2) 1 then Infinity s else NotANumber) else
+    Fraction (record { negative = s; numerator = n; denominator = d })
+
+-- Sign s at bit 2k+1; numerator at bits 2k to k+1; mark at bit k; denominator at bits k-1 to 0.
+unfoldable pub fixedNumber : ℕ → ℕ → Number
+fixedNumber k w =
+    record { value = fixedValue (bit (2 * k + 1) w) (bits (k + 1) k w) (bits 0 k w); approximate = bit k w }
+
+-- Floating. The slash position e: L bits from bit k-1 on. An e between k-1 and 2^L - 2 is undefined.
+unfoldable pub slashPosition : ℕ → ℕ → ℕ
+slashPosition k w = bits (k - 1) (slashBits k) w
+
+unfoldable pub slashUndefined : ℕ → ℕ → Bool
+slashUndefined k w = leb (k - 1) (slashPosition k w) && leb (slashPosition k w) (2 ^ slashBits k - 2)
+
+-- For e ≤ k-2 the numerator is f divided by 2^e, fraction dropped, and the denominator is (f mod 2^e) + 2^e; numerator 0 is zero.
+unfoldable pub floatingFraction : Bool → ℕ → ℕ → Value
+floatingFraction s e f =
+    if eqb (f / 2 ^ e) 0 then Zero s else
+    Fraction (record { negative = s; numerator = f / 2 ^ e; denominator = f % 2 ^ e + 2 ^ e })
+
+-- For e = 2^L - 1, f even is infinity and f odd is not-a-number.
+unfoldable pub floatingSpecial : Bool → ℕ → Value
+floatingSpecial s f = if eqb (f % 2) 0 then Infinity s else NotANumber
+
+-- Sign s at bit k+L; mark at bit k+L-1; slash position e in the next L bits; field f in bits k-2 to 0.
+unfoldable pub floatingNumber : ℕ → ℕ → Number
+floatingNumber k w =
+    let s : Bool = bit (k + slashBits k) w in
+    let e : ℕ = slashPosition k w in
+    let f : ℕ = bits 0 (k - 1) w in
+    record {
+      value = if leb e (k - 2) then floatingFraction s e f else floatingSpecial s f;
+      approximate = bit (k + slashBits k - 1) w;
+    }
+
+-- What a word says, where none of the checks stops it.
+unfoldable pub numberOf : Format → ℕ → Number
+numberOf f w = if isFixed f then fixedNumber (f .k) w else floatingNumber (f .k) w
+
+-- A word with bits above its width.
+unfoldable pub isAbove : (width w : ℕ) → Bool
+isAbove width w = leb (2 ^ width) w
+
+-- The stop that a word earns: 4 for bits above the width, then 5 for an undefined slash position; 0 for none.
+unfoldable pub wordStop : Format → ℕ → ℕ
+wordStop f w =
+    if isAbove (widthOf f) w then 4 else
+    if not (isFixed f) && slashUndefined (f .k) w then 5 else
+    0
+
+-- Stop 1 for the format, then the word's.
+unfoldable pub readWord : Format → ℕ → Outcome Number
+readWord f w =
+    if not (known f) then stop 1 0 else
+    if eqb (wordStop f w) 0 then done (numberOf f w) else
+    stop (wordStop f w) 0
+
+-- ---- writing
+
+-- Fixed: sign, numerator, mark, denominator.
+unfoldable pub fixedWord : (k s n a d : ℕ) → ℕ
+fixedWord k s n a d = fields s n k a 1 d k
+
+-- Floating: sign, mark, slash position, field.
+unfoldable pub floatingWord : (k s a e f : ℕ) → ℕ
+floatingWord k s a e f = fields s a 1 e (slashBits k) f (k - 1)
+
+-- The floating word of n/d: the slash stands before all bits of d but its leading one, which is not stored. Of 1/0: e = 2^L - 1 and f = 0.
+unfoldable pub floatingPair : (k s a n d : ℕ) → ℕ
+floatingPair k s a n d =
+    let e : ℕ = bitCount d - 1 in
+    if eqb d 0 then floatingWord k s a (2 ^ slashBits k - 1) 0
+    else floatingWord k s a e (n * 2 ^ e + (d - 2 ^ e))
+
+unfoldable pub floatingNan : ℕ → ℕ
+floatingNan k = floatingWord k 0 0 (2 ^ slashBits k - 1) 1
+
+-- The canonical word of a pair in lowest terms that the format holds: zero is 0/1, infinity 1/0.
+unfoldable pub pairWord : Format → (sign mark : Bool) → Pair → ℕ
+pairWord f s a x =
+    if isFixed f then fixedWord (f .k) (bitOf s) (x .numerator) (bitOf a) (x .denominator)
+    else floatingPair (f .k) (bitOf s) (bitOf a) (x .numerator) (x .denominator)
+
+-- Not-a-number is one word: fixed 0; floating e = 2^L - 1, f = 1, s = a = 0.
+unfoldable pub nanWord : Format → ℕ
+nanWord f = if isFixed f then 0 else floatingNan (f .k)
+
+-- The canonical word of a value and its mark: a fraction N/D is rounded into the format, and is marked if it was or rounding changed its
+-- value; not-a-number has no mark. Stop 6 for a fraction with denominator 0.
+unfoldable pub writeValue : Format → Bool → Value → Outcome ℕ
+writeValue f a (Fraction p) =
+    let x : Pair = round (holds f) (p .numerator) (p .denominator) in
+    if eqb (p .denominator) 0 then stop 6 0 else
+    done (pairWord f (p .negative) (a || differs (p .numerator) (p .denominator) x) x)
+writeValue f a (Zero s) = done (pairWord f s a (pair 0 1))
+writeValue f a (Infinity s) = done (pairWord f s a (pair 1 0))
+writeValue f a NotANumber = done (nanWord f)
+
+unfoldable pub writeNumber : Format → Number → Outcome ℕ
+writeNumber f x = if not (known f) then stop 1 0 else writeValue f (x .approximate) (x .value)
+
+-- ---- pairs and values
+
+-- The value of a pair in lowest terms: 0/1 is zero, 1/0 infinity.
+unfoldable pub valueOf : Bool → Pair → Value
+valueOf s x =
+    if eqb (x .denominator) 0 then Infinity s else
+    if eqb (x .numerator) 0 then Zero s else
+    Fraction (record { negative = s; numerator = x .numerator; denominator = x .denominator })
+
+-- The pair of a value: a fraction's fields, zero as 0/1, infinity as 1/0.
+unfoldable pub pairOf : Value → Pair
+pairOf (Fraction p) = pair (p .numerator) (p .denominator)
+pairOf (Zero s) = pair 0 1
+pairOf (Infinity s) = pair 1 0
+pairOf NotANumber = pair 0 0
+
+-- Demand 3, of a word w that stands for N/D: its pair is the best that the format holds.
+unfoldable pub BestFor : Format → ℕ → ℕ → ℕ → Type 0
+BestFor f N D w = Best (holds f) N D (pairOf (numberOf f w .value))
+
+-- The same where the word stands for a finite value, zero as 0/1; of other values it says nothing.
+unfoldable pub BestWord : Format → Value → ℕ → Type 0
+BestWord f (Fraction p) w = BestFor f (p .numerator) (p .denominator) w
+BestWord f (Zero s) w = BestFor f 0 1 w
+BestWord f (Infinity s) w = Unit {0}
+BestWord f NotANumber w = Unit {0}

@@ -1,0 +1,56 @@
+// The bits of a number: powers of two, fields, how many bits a number takes.
+ghost use mathlib.Core.Path.{_≡_};
+ghost use Prim.Native.Nat.{_+_, _≤_, _<_, _^_};
+ghost use Rattle.slash.specs.Bits.{bitCount, bits, bit, bitOf, fields};
+
+pub(crate) fn power(k: u64) -> u64
+    requires { ⌜ k < 64 ⌝ }
+    ensures { λ r. ⌜ r ≡ 2 ^ k ⌝ }
+{
+    1 << k
+}
+
+// How many bits n takes; 0 takes one.
+pub(crate) fn bit_count(n: u64) -> u64
+    ensures { λ r. ⌜ r ≡ bitCount n ⌝ }
+{
+    if n == 0 {
+        1
+    } else {
+        64 - (u64::leading_zeros(n) as u64)
+    }
+}
+
+// count bits of w, from bit from on.
+pub(crate) fn field(w: u64, from: u64, count: u64) -> u64
+    requires { ⌜ (from < 64) × (count < 64) ⌝ }
+    ensures { λ r. ⌜ r ≡ bits from count w ⌝ }
+{
+    (w >> from) % power(count)
+}
+
+// Whether bit from of w is set.
+pub(crate) fn flag(w: u64, from: u64) -> bool
+    requires { ⌜ from < 64 ⌝ }
+    ensures { λ r. ⌜ r ≡ bit from w ⌝ }
+{
+    field(w, from, 1) == 1
+}
+
+// 1 for true.
+pub(crate) fn set_bit(b: bool) -> u64
+    ensures { λ r. ⌜ r ≡ bitOf b ⌝ }
+{
+    if b { 1 } else { 0 }
+}
+
+// A word of four fields, the highest first: a sign, and x, y, z of i, j, k bits.
+pub(crate) fn pack(s: u64, x: u64, i: u64, y: u64, j: u64, z: u64, k: u64) -> u64
+    requires { ⌜ (i + j + k < 64) × (s < 2) × (x < 2 ^ i) × (y < 2 ^ j) × (z < 2 ^ k) ⌝ }
+    ensures { λ r. ⌜ r ≡ fields s x i y j z k ⌝ }
+{
+    let p = power(i);
+    let q = power(j);
+    let r = power(k);
+    ((s * p + x) * q + y) * r + z
+}

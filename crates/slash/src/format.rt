@@ -1,0 +1,126 @@
+// A word format: a kind and a number k.
+ghost use mathlib.Core.Path.{_≡_};
+ghost use mathlib.Core.Bool.{true};
+ghost use Prim.Native.Nat.{_≤_};
+ghost use Rattle.slash.specs.Answers.{outcome, madeOutcome};
+ghost use Rattle.slash.specs.Formats.{known, makeFormat, ofKnown, slashBits, widthOf, largestNumerator, largestDenominator};
+use crate::answer::Answer;
+use crate::answer::Stop;
+use crate::bits::bit_count;
+use crate::bits::power;
+
+// The kind is FIXED or FLOATING. A format that a caller made by hand may be of no such kind, or
+// have no such k: each function that takes one sees to that itself.
+pub struct Format {
+    pub kind: u64,
+    pub k: u64,
+}
+
+// What making a format answers.
+pub enum Made {
+    Done(Format),
+    Stopped(Stop),
+}
+
+impl Format {
+    pub const FIXED: u64 = 1;
+
+    pub const FLOATING: u64 = 2;
+
+    pub const LEAST_K: u64 = 2;
+
+    pub const MOST_FIXED_K: u64 = 31;
+
+    pub const MOST_FLOATING_K: u64 = 32;
+
+    pub fn make(kind: u64, k: u64) -> Made
+        ensures { λ r. ⌜ madeOutcome r ≡ makeFormat kind k ⌝ }
+    {
+        let f = Format { kind: kind, k: k };
+        if f.is_known() {
+            Made::Done(f)
+        } else {
+            Made::Stopped(Stop::plain(Stop::FORMAT))
+        }
+    }
+
+    // How many bits a word has.
+    pub fn width(self) -> Answer
+        ensures { λ r. ⌜ outcome r ≡ ofKnown self (widthOf self) ⌝ }
+    {
+        if self.is_known() {
+            Answer::Done(self.word_bits())
+        } else {
+            Answer::Stopped(Stop::plain(Stop::FORMAT))
+        }
+    }
+
+    // The largest numerator of a pair that the format holds, 1/0 aside.
+    pub fn largest_numerator(self) -> Answer
+        ensures { λ r. ⌜ outcome r ≡ ofKnown self (largestNumerator self) ⌝ }
+    {
+        if self.is_known() {
+            Answer::Done(self.largest_part())
+        } else {
+            Answer::Stopped(Stop::plain(Stop::FORMAT))
+        }
+    }
+
+    // The largest denominator of a pair that the format holds.
+    pub fn largest_denominator(self) -> Answer
+        ensures { λ r. ⌜ outcome r ≡ ofKnown self (largestDenominator self) ⌝ }
+    {
+        if self.is_known() {
+            Answer::Done(self.largest_part())
+        } else {
+            Answer::Stopped(Stop::plain(Stop::FORMAT))
+        }
+    }
+
+    pub(crate) fn is_known(self) -> bool
+        ensures { λ r. ⌜ r ≡ known self ⌝ }
+    {
+        if self.k < Format::LEAST_K {
+            return false;
+        }
+        if self.kind == Format::FIXED {
+            return self.k <= Format::MOST_FIXED_K;
+        }
+        if self.kind == Format::FLOATING {
+            return self.k <= Format::MOST_FLOATING_K;
+        }
+        false
+    }
+
+    pub(crate) fn word_bits(self) -> u64
+        requires { ⌜ known self ≡ true ⌝ }
+        ensures { λ r. ⌜ r ≡ widthOf self ⌝ }
+    {
+        if self.kind == Format::FIXED {
+            2 * self.k + 2
+        } else {
+            self.k + slash_bits(self.k) + 1
+        }
+    }
+
+    // The numerator and the denominator have one largest value: a floating pair with one part 1 has
+    // all but one of the k bits for the other.
+    fn largest_part(self) -> u64
+        requires { ⌜ known self ≡ true ⌝ }
+        ensures { λ r. ⌜ (r ≡ largestNumerator self) × (r ≡ largestDenominator self) ⌝ }
+    {
+        if self.kind == Format::FIXED {
+            power(self.k) - 1
+        } else {
+            power(self.k - 1) - 1
+        }
+    }
+}
+
+// L, the least whole number with 2^L at least k: as many bits as k - 1 takes.
+pub(crate) fn slash_bits(k: u64) -> u64
+    requires { ⌜ 2 ≤ k ⌝ }
+    ensures { λ r. ⌜ r ≡ slashBits k ⌝ }
+{
+    bit_count(k - 1)
+}

@@ -1,0 +1,22 @@
+// What a word says: a signed fraction, zero, infinity or not-a-number, and the mark beside it.
+
+// The parts of a fraction, as they are stored: neither is 0, and they need not be in lowest terms.
+pub struct Parts {
+    pub negative: bool,
+    pub numerator: u64,
+    pub denominator: u64,
+}
+
+// A zero and an infinity hold their sign: true is negative.
+pub enum Value {
+    Fraction(Parts),
+    Zero(bool),
+    Infinity(bool),
+    NotANumber,
+}
+
+// A value with its mark: exact, or approximate.
+pub struct Number {
+    pub value: Value,
+    pub approximate: bool,
+}
