@@ -7,9 +7,9 @@ use borrow.Author.Tests.{eqb-true}
 use native.Mathlib.Omega.{arith}
 use native.Mathlib.Decide.{decLe, ℕ-discrete}
 use native.Mathlib.Nat.{eq-of-mul-eq-mul-right, mod-lt}
-use Rattle.convergents.specs.Pairs.{Pair, pair, miss}
+use Rattle.convergents.specs.Pairs.{Pair, pair, miss, Better}
 use Rattle.convergents.specs.Rounding.{Limit, held}
-use Rattle.convergents.specs.Best.{Better, Best}
+use Rattle.convergents.specs.Best.{Best}
 use Rattle.convergents.proofs.Neighbours.{Det, det-mirror, blocked, nowhere, outside, multiple}
 use Rattle.convergents.proofs.Euclid.{Inv, Phase, miss-is, up, inv-next, up-den, up-wide}
 

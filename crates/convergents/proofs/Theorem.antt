@@ -7,10 +7,10 @@ use mathlib.Core.List.{List, [], _∷_}
 use native.Mathlib.Omega.{arith}
 use native.Mathlib.Decide.{ℕ-discrete}
 use native.Mathlib.Nat.{mod-lt, zero-lt-suc, div-add-mod', dvd-mul-left}
-use Rattle.convergents.specs.Pairs.{Pair, pair, miss}
+use Rattle.convergents.specs.Pairs.{Pair, pair, miss, Better}
 use Rattle.convergents.specs.Convergents.{euclid, quotients, recurrence, convergents}
 use Rattle.convergents.specs.Rounding.{Limit, held, lastHeld, round, NoneHeld, HeldFirst, rest, more}
-use Rattle.convergents.specs.Best.{Better, Best}
+use Rattle.convergents.specs.Best.{Best}
 use Rattle.convergents.proofs.Neighbours.{Det, coprime}
 use Rattle.convergents.proofs.Euclid.{Inv, inv-start, miss-is, up, inv-next, up-den, up-le, quotient-two}
 use Rattle.convergents.proofs.Optimal.{pair-path, true-false, held-is, one-held, Last, exact, stopped, last-best}

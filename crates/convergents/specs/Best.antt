@@ -1,16 +1,10 @@
 -- Demand 3: what it means that no held pair does better.
-use Prim.Native.Nat.{ℕ, _+_, _<_}
+use Prim.Native.Nat.{ℕ}
 use mathlib.Core.Path.{_≡_}
-use mathlib.Core.Logic.{_⊎_, _≢_}
+use mathlib.Core.Logic.{_≢_}
 use mathlib.Core.Bool.{Bool, true}
-use Rattle.convergents.specs.Pairs.{Pair, miss}
+use Rattle.convergents.specs.Pairs.{Pair, Better}
 use Rattle.convergents.specs.Rounding.{held}
-
--- y has a larger miss than x for N/D, or an equal miss and a larger sum of its parts.
-abbrev pub Better : ℕ → ℕ → Pair → Pair → Type 0
-Better N D x y =
-    (miss N D x < miss N D y)
-    ⊎ ((miss N D x ≡ miss N D y) × (x .numerator + x .denominator < y .numerator + y .denominator))
 
 -- x is the best pair for N/D: it is held, and better than every other held pair, 1/0 included.
 pub record Best (holds : ℕ → ℕ → Bool) (N D : ℕ) (x : Pair) : Type 0 where

@@ -1,5 +1,7 @@
--- Pairs r/s of whole numbers, and how far a pair misses a ratio.
-use Prim.Native.Nat.{ℕ, _+_, _-_, _*_}
+-- Pairs r/s of whole numbers, how far a pair misses a ratio, and which of two does better.
+use Prim.Native.Nat.{ℕ, _+_, _-_, _*_, _<_}
+use mathlib.Core.Path.{_≡_}
+use mathlib.Core.Logic.{_⊎_}
 use mathlib.Core.Bool.{Bool, not}
 use lib.Dec.{eqb}
 
@@ -18,3 +20,9 @@ miss N D x = (x .denominator * N - x .numerator * D) + (x .numerator * D - x .de
 -- Whether the value of a pair isn't N/D.
 unfoldable pub differs : ℕ → ℕ → Pair → Bool
 differs N D x = not (eqb (x .denominator * N) (x .numerator * D))
+
+-- y has a larger miss than x for N/D, or an equal miss and a larger sum of its parts.
+abbrev pub Better : ℕ → ℕ → Pair → Pair → Type 0
+Better N D x y =
+    (miss N D x < miss N D y)
+    ⊎ ((miss N D x ≡ miss N D y) × (x .numerator + x .denominator < y .numerator + y .denominator))

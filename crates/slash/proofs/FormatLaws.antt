@@ -215,3 +215,56 @@ module _ (f : Format) (n d : ℕ) (h : known f ≡ true) (l : held (holds f) (pa
 
   pub floating-parts : (f .kind ≡ 1 → ⊥) → 1 ≤ d → bitCount n + bitCount d ≤ f .k
   floating-parts e g = floating-holds f n d e (held-some g)
+
+-- ---- the largest parts are held, and no held pair has larger ones
+
+module _ (f : Format) (h : known f ≡ true) where
+  -- the largest part is held beside any part of one bit
+  largest-beside : (one : ℕ) → one ≤ 1 → (holds f (largestNumerator f) one ≡ true) × (holds f one (largestDenominator f) ≡ true)
+  unfolding largestNumerator largestDenominator
+  largest-beside one o = go (ℕ-discrete (f .kind) 1)
+    where
+      k : (2 ≤ f .k) × (f .k ≤ 32)
+      k = known-k f h
+
+      fixed : f .kind ≡ 1 → (holds f (2 ^ f .k - 1) one ≡ true) × (holds f one (2 ^ f .k - 1) ≡ true)
+      fixed e =
+          let m : ℕ = 2 ^ f .k - 1 in
+          let l : one ≤ m = omega (arith, pow-mono (k .0)) in
+          let i : m ≤ m = omega arith in
+          (sym (holds-fixed f m one e _ refl i) ∙ le-leb _ _ l, sym (holds-fixed f one m e _ refl l) ∙ le-leb _ _ i)
+
+      floating : (f .kind ≡ 1 → ⊥) → (holds f (2 ^ (f .k - 1) - 1) one ≡ true) × (holds f one (2 ^ (f .k - 1) - 1) ≡ true)
+      floating n =
+          let m : ℕ = 2 ^ (f .k - 1) - 1 in
+          let a : bitCount m ≤ f .k - 1 = bit-count-le m (f .k - 1) (omega (arith, k)) (omega (arith, pow-pos (f .k - 1))) in
+          let b : bitCount one ≤ 1 = bit-count-le one 1 (omega arith) (omega arith) in
+          let i : bitCount m + bitCount one ≤ f .k = omega (arith, k) in
+          let j : bitCount one + bitCount m ≤ f .k = omega arith in
+          (sym (holds-floating f m one n _ _ refl refl) ∙ le-leb _ _ i, sym (holds-floating f one m n _ _ refl refl) ∙ le-leb _ _ j)
+
+      go : Dec (f .kind ≡ 1) → (holds f (largestNumerator f) one ≡ true) × (holds f one (largestDenominator f) ≡ true)
+      go (yes e) = rw (eq-eqb _ _ e) (fixed e)
+      go (no n) = rw (ne-eqb _ _ n) (floating n)
+
+  pub largest-numerator-held : holds f (largestNumerator f) 1 ≡ true
+  largest-numerator-held = largest-beside 1 (omega arith) .0
+
+  pub largest-denominator-held : holds f 1 (largestDenominator f) ≡ true
+  largest-denominator-held = largest-beside 1 (omega arith) .1
+
+  pub largest-most : (r s : ℕ) → holds f r s ≡ true → (r ≤ largestNumerator f) × (s ≤ largestDenominator f)
+  unfolding largestNumerator largestDenominator
+  largest-most r s l = go (ℕ-discrete (f .kind) 1)
+    where
+      below : (m n : ℕ) → bitCount m + bitCount n ≤ f .k → m ≤ 2 ^ (f .k - 1) - 1
+      below m n i =
+          let j : bitCount m ≤ f .k - 1 = omega (arith, bit-count-pos n) in
+          omega (arith, bit-count-lt m, pow-mono j)
+
+      go : Dec (f .kind ≡ 1) → (r ≤ largestNumerator f) × (s ≤ largestDenominator f)
+      go (yes e) = let b = fixed-holds f r s e l in rw (eq-eqb _ _ e) (omega arith, omega arith)
+      go (no n) =
+          let b = floating-holds f r s n l in
+          let c : bitCount s + bitCount r ≤ f .k = omega arith in
+          rw (ne-eqb _ _ n) (below r s b, below s r c)

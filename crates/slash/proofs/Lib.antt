@@ -5,3 +5,6 @@ pub mod RoundingLaws
 pub mod WordLaws
 pub mod RoundTrip
 pub mod WriteLaws
+pub mod Recompose
+pub mod Canonical
+pub mod Edges

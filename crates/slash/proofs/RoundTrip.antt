@@ -42,7 +42,7 @@ module _ (s : Bool) (n d : ℕ) where
   unfolding valueOf
   value-zero h e = rw (ne-eqb _ _ h, eq-eqb _ _ e) refl
 
-  value-fraction : (d ≡ 0 → ⊥) → (n ≡ 0 → ⊥) → Fraction (record { negative = s; numerator = n; denominator = d }) ≡ valueOf s (pair n d)
+  pub value-fraction : (d ≡ 0 → ⊥) → (n ≡ 0 → ⊥) → Fraction (record { negative = s; numerator = n; denominator = d }) ≡ valueOf s (pair n d)
   unfolding valueOf
   value-fraction h g = rw (ne-eqb _ _ h, ne-eqb _ _ g) refl
 

@@ -4,3 +4,5 @@ pub mod Bits
 pub mod Formats
 pub mod Words
 pub mod Rounding
+pub mod Canonical
+pub mod Edges

@@ -1,0 +1,79 @@
+-- Canonical numbers and words, for the laws of reading and writing.
+use Prim.Native.Nat.{ℕ, _*_, _≤_, _∣_}
+use mathlib.Core.Path.{_≡_}
+use mathlib.Core.Bool.{true, false}
+use mathlib.Core.Logic.{_⊎_}
+use Rattle.slash.specs.Answers.{done}
+use Rattle.slash.specs.Formats.{holds}
+use Rattle.slash.specs.Words.{readWord, writeNumber}
+use Rattle.slash.specs.declared.format.Format.{Format}
+use Rattle.slash.specs.declared.number.Parts.{Parts}
+use Rattle.slash.specs.declared.number.Value.{Value}
+use Rattle.slash.specs.declared.number.Value.the-variants.{Fraction, Zero, Infinity, NotANumber}
+use Rattle.slash.specs.declared.number.Number.{Number}
+
+-- n/d is in lowest terms: only 1 divides both.
+unfoldable pub Lowest : ℕ → ℕ → Type 0
+Lowest n d = (g : ℕ) → g ∣ n → g ∣ d → g ≡ 1
+
+-- The parts of a fraction that the format holds: neither is 0.
+pub record HeldParts (f : Format) (p : Parts) : Type 0 where
+  pub some-numerator : 1 ≤ p .numerator
+  pub some-denominator : 1 ≤ p .denominator
+  pub holds-it : holds f (p .numerator) (p .denominator) ≡ true
+
+-- A number that the format holds.
+unfoldable pub HeldNumber : Format → Value → Type 0
+HeldNumber f (Fraction p) = HeldParts f p
+HeldNumber f (Zero s) = Unit {0}
+HeldNumber f (Infinity s) = Unit {0}
+HeldNumber f NotANumber = Unit {0}
+
+-- A number as results have it: a fraction is in lowest terms, and not-a-number has no mark.
+unfoldable pub Reduced : Number → Value → Type 0
+Reduced x (Fraction p) = Lowest (p .numerator) (p .denominator)
+Reduced x (Zero s) = Unit {0}
+Reduced x (Infinity s) = Unit {0}
+Reduced x NotANumber = x .approximate ≡ false
+
+pub record Canonical (f : Format) (x : Number) : Type 0 where
+  pub is-held : HeldNumber f (x .value)
+  pub reduced : Reduced x (x .value)
+
+-- Two values are the same: of one kind and one sign, and fractions multiply across to the same.
+unfoldable pub SameValue : Value → Value → Type 0
+SameValue (Fraction p) (Fraction q) = (p .negative ≡ q .negative) × (p .numerator * q .denominator ≡ q .numerator * p .denominator)
+SameValue (Zero s) (Zero t) = s ≡ t
+SameValue (Infinity s) (Infinity t) = s ≡ t
+SameValue NotANumber NotANumber = Unit {0}
+SameValue (Fraction p) (Zero t) = ⊥
+SameValue (Fraction p) (Infinity t) = ⊥
+SameValue (Fraction p) NotANumber = ⊥
+SameValue (Zero s) (Fraction q) = ⊥
+SameValue (Zero s) (Infinity t) = ⊥
+SameValue (Zero s) NotANumber = ⊥
+SameValue (Infinity s) (Fraction q) = ⊥
+SameValue (Infinity s) (Zero t) = ⊥
+SameValue (Infinity s) NotANumber = ⊥
+SameValue NotANumber (Fraction q) = ⊥
+SameValue NotANumber (Zero t) = ⊥
+SameValue NotANumber (Infinity t) = ⊥
+
+-- Two numbers are the same: their values are, and their marks; but not-a-number's mark is no part of it.
+unfoldable pub SameNumber : Number → Number → Type 0
+SameNumber x y = SameValue (x .value) (y .value) × ((x .value ≡ NotANumber) ⊎ (x .approximate ≡ y .approximate))
+
+-- A word is canonical if it is what some canonical number is written as.
+pub record CanonicalWord (f : Format) (w : ℕ) : Type 0 where
+  pub number : Number
+  pub canonical : Canonical f number
+  pub written : writeNumber f number ≡ done w
+
+-- What was read as x is written as a canonical word that is read as the same number.
+pub record WrittenBack (f : Format) (x : Number) : Type 0 where
+  pub word : ℕ
+  pub written : writeNumber f x ≡ done word
+  pub number : Number
+  pub read : readWord f word ≡ done number
+  pub canonical : Canonical f number
+  pub same : SameNumber x number

@@ -1,0 +1,69 @@
+-- The paper's marked cases, as rows of one table.
+use Prim.Native.Nat.{ℕ}
+use mathlib.Core.Bool.{Bool, true, false, _&&_, not}
+use mathlib.Core.List.{List, [], _∷_}
+use lib.Dec.{eqb}
+use Rattle.convergents.specs.Choice.{if_then_else_}
+use Rattle.slash.specs.Answers.{Outcome, stop, done}
+use Rattle.slash.specs.Rounding.{roundRatio}
+use Rattle.slash.specs.Words.{writeNumber}
+use Rattle.slash.specs.declared.format.Format.{Format}
+use Rattle.slash.specs.declared.number.Value.the-variants.{Fraction}
+use Rattle.slash.specs.declared.number.Number.{Number}
+use Rattle.slash.specs.declared.rounding.Rounded.{Rounded}
+
+abbrev fixed : ℕ → Format
+fixed k = record { kind = 1; k = k }
+
+abbrev floating : ℕ → Format
+floating k = record { kind = 2; k = k }
+
+abbrev exact : Bool
+exact = false
+
+abbrev approximate : Bool
+approximate = true
+
+-- What a row says.
+pub data Edge : Type 0 where
+  -- In this format n/d gives r/s, with this mark.
+  rounds : Format → (n d r s : ℕ) → Bool → Edge
+  -- In this format n/d, with this mark, is written as this word.
+  writes : Format → (n d : ℕ) → Bool → ℕ → Edge
+
+unfoldable pub edges : List Edge
+edges =
+    rounds (fixed 9) 277 642 85 197 approximate ∷
+    rounds (fixed 2) 5 2 2 1 approximate ∷
+    rounds (fixed 3) 1 10 0 1 approximate ∷
+    rounds (fixed 3) 15 2 7 1 approximate ∷
+    rounds (fixed 3) 8 1 1 0 approximate ∷
+    rounds (fixed 3) 7 1 7 1 exact ∷
+    -- 8/15, the sum of the words 13 and 15 (hexadecimal): 1/2, approximate
+    writes (fixed 3) 8 15 exact 0x1a ∷
+    rounds (floating 4) 5 2 2 1 approximate ∷
+    rounds (floating 4) 5 1 5 1 exact ∷
+    rounds (floating 4) 9 1 1 0 approximate ∷
+    writes (floating 26) 355 113 approximate 0x4c0058f1 ∷
+    rounds (fixed 2) 6 23 1 3 approximate ∷ []
+
+unfoldable pub same : Bool → Bool → Bool
+same a b = if a then b else not b
+
+unfoldable pub isRounded : ℕ → ℕ → Bool → Outcome Rounded → Bool
+isRounded r s a (stop number place) = false
+isRounded r s a (done x) = eqb (x .numerator) r && eqb (x .denominator) s && same (x .approximate) a
+
+unfoldable pub isWord : ℕ → Outcome ℕ → Bool
+isWord w (stop number place) = false
+isWord w (done v) = eqb v w
+
+-- Whether the definitions say what a row says.
+unfoldable pub agrees : Edge → Bool
+agrees (rounds f n d r s a) = isRounded r s a (roundRatio f n d)
+agrees (writes f n d a w) =
+    isWord w (writeNumber f (record { value = Fraction (record { negative = false; numerator = n; denominator = d }); approximate = a }))
+
+unfoldable pub allAgree : List Edge → Bool
+allAgree [] = true
+allAgree (e ∷ more) = agrees e && allAgree more
