@@ -122,6 +122,8 @@ def field(word, high, low):
     return (word >> low) % 2 ** (high - low + 1)
 
 
+# A small format's words are met in all pairs, so the last ones are kept.
+@lru_cache(maxsize=2**12)
 def read_word(form, word):
     """The value of a word; stop 4, then stop 5."""
     if word >= 2 ** width(form):
@@ -255,8 +257,9 @@ def held_pairs(form):
     ]
 
 
+@lru_cache(maxsize=None)
 def best_by_search(form, n, d):
-    """The best of all pairs that the format holds."""
+    """The best of all pairs that the format holds, each ratio searched once."""
     return min(held_pairs(form), key=lambda pair: rank(pair, n, d))
 
 

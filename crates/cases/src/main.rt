@@ -1,10 +1,11 @@
 // Runs requests from standard input, one a line, and writes an answer for each: a letter, then
 // decimal numbers parted by single spaces. tests/second writes the requests and what the answers
 // must be.
-
+mod operations;
 mod requests;
 mod show;
 mod table;
+mod words;
 
 use libc::STDIN_FILENO;
 

@@ -1,104 +1,10 @@
 // The requests by their letters.
 use crate::Line;
+use crate::operations;
 use crate::show;
 use crate::table;
-use slash::Answer;
+use crate::words;
 use slash::Format;
-use slash::Made;
-use slash::Number;
-use slash::Parts;
-use slash::Reading;
-use slash::Rounding;
-use slash::Value;
-
-// An answer that is one number.
-fn show_number(a: Answer) {
-    match a {
-        Answer::Done(n) => show::number(n),
-        Answer::Stopped(s) => show::stop(s),
-    }
-}
-
-// f KIND K: the width and the largest parts.
-fn format(kind: u64, k: u64) {
-    match Format::make(kind, k) {
-        Made::Done(f) => {
-            show_number(f.width());
-            show::text(b" ");
-            show_number(f.largest_numerator());
-            show::text(b" ");
-            show_number(f.largest_denominator());
-        }
-        Made::Stopped(s) => show::stop(s),
-    }
-}
-
-fn show_value(v: Value) {
-    match v {
-        Value::Fraction(p) => {
-            show::sign(p.negative);
-            show::pair(p.numerator, p.denominator);
-        }
-        Value::Zero(s) => {
-            show::sign(s);
-            show::text(b"zero");
-        }
-        Value::Infinity(s) => {
-            show::sign(s);
-            show::text(b"infinity");
-        }
-        Value::NotANumber => show::text(b"nan"),
-    }
-}
-
-// r KIND K WORD: what a word says.
-fn read(f: Format, w: u64) {
-    match slash::read(f, w) {
-        Reading::Done(x) => {
-            let v = x.value;
-            show_value(v);
-            show::mark(x.approximate);
-        }
-        Reading::Stopped(s) => show::stop(s),
-    }
-}
-
-// CLASS 0 is a fraction, 1 zero, 2 infinity, and any other not-a-number.
-fn value(class: u64, negative: bool, n: u64, d: u64) -> Value {
-    match class {
-        0 => Value::Fraction(Parts {
-            negative: negative,
-            numerator: n,
-            denominator: d,
-        }),
-        1 => Value::Zero(negative),
-        2 => Value::Infinity(negative),
-        _ => Value::NotANumber,
-    }
-}
-
-// w KIND K CLASS SIGN N D MARK: the canonical word, in hexadecimal.
-fn write(f: Format, v: Value, approximate: bool) {
-    let x = Number {
-        value: v,
-        approximate: approximate,
-    };
-    match slash::write(f, x) {
-        Answer::Done(w) => show::hexadecimal(w),
-        Answer::Stopped(s) => show::stop(s),
-    }
-}
-
-// n KIND K N D: a ratio rounded.
-fn round(f: Format, n: u64, d: u64) {
-    match slash::round(f, n, d) {
-        Rounding::Done(r) => {
-            show::pair(r.numerator, r.denominator);
-            show::mark(r.approximate);
-        }
-        Rounding::Stopped(s) => show::stop(s),
-    }
-}
 
 // Runs the request of a line and writes the answer's line. The first number is the letter's place
 // and says nothing.
@@ -109,12 +15,22 @@ pub(crate) fn run(line: Line) {
         kind: a[1],
         k: a[2],
     };
+    let to = Format {
+        kind: a[3],
+        k: a[4],
+    };
     match letter {
-        b'f' => format(a[1], a[2]),
-        b'r' => read(f, a[3]),
-        b'w' => write(f, value(a[3], a[4] == 1, a[5], a[6]), a[7] == 1),
-        b'n' => round(f, a[3], a[4]),
+        b'f' => words::format(a[1], a[2]),
+        b'r' => words::read(f, a[3]),
+        b'w' => words::write(f, words::value(a[3], a[4] == 1, a[5], a[6]), a[7] == 1),
+        b'n' => words::round(f, a[3], a[4]),
         b'c' => table::list(a[1], a[2]),
+        b'b' => operations::binary(f, a[3], a[4], a[5]),
+        b'B' => operations::binary_all(f, a[3], a[4]),
+        b'o' => operations::compare(f, a[3], a[4]),
+        b'O' => operations::compare_all(f, a[3]),
+        b'v' => operations::convert(f, to, a[5]),
+        b'V' => operations::convert_all(f, to),
         _ => show::text(b"unknown"),
     }
     show::text(b"\n");

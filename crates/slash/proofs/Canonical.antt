@@ -16,21 +16,19 @@ use Rattle.convergents.proofs.Theorem.{round-best, round-lowest, round-held, ro
 use Rattle.convergents.proofs.Loop.{differs-not}
 use Rattle.slash.specs.Answers.{Outcome, stop, done}
 use Rattle.slash.specs.Formats.{known, holds}
-use Rattle.slash.specs.Words.{numberOf, wordStop, readWord, pairWord, nanWord, writeValue, writeNumber, valueOf}
+use Rattle.slash.specs.Words.{numberOf, wordStop, readWord, pairWord, nanWord, wordFor, isOverZero, writeNumber, valueOf}
 use Rattle.slash.specs.Canonical.{Lowest, HeldParts, HeldNumber, Reduced, Canonical, SameValue, SameNumber, CanonicalWord, WrittenBack}
 use Rattle.slash.specs.declared.format.Format.{Format}
 use Rattle.slash.specs.declared.number.Parts.{Parts}
 use Rattle.slash.specs.declared.number.Value.{Value}
 use Rattle.slash.specs.declared.number.Value.the-variants.{Fraction, Zero, Infinity, NotANumber}
 use Rattle.slash.specs.declared.number.Number.{Number}
+use Rattle.slash.proofs.AnswerLaws.{done-inj}
 use Rattle.slash.proofs.FormatLaws.{format-limit}
 use Rattle.slash.proofs.RoundTrip.{Proper, value-fraction, Says, says-read, pair-says, nan-says}
 use Rattle.slash.proofs.WordLaws.{read-stop, read-done}
-use Rattle.slash.proofs.WriteLaws.{lowest-proper, zero-held, write-known}
+use Rattle.slash.proofs.WriteLaws.{lowest-proper, zero-held, write-done}
 use Rattle.slash.proofs.Recompose.{Fractional, fractional}
-
-done-inj : {A : Type 0} {x y : A} → done x ≡ done y → x ≡ y
-done-inj e = cc
 
 or-false : (a : Bool) → (a || false) ≡ a
 or-false true = refl
@@ -39,40 +37,53 @@ or-false false = refl
 module _ (f : Format) (h : known f ≡ true) where
   -- a held fraction in lowest terms is rounded to itself, exactly, so that its own parts are written
   fraction-word : (a : Bool) (p : Parts) → HeldParts f p → Lowest (p .numerator) (p .denominator)
-      → writeValue f a (Fraction p) ≡ done (pairWord f (p .negative) a (pair (p .numerator) (p .denominator)))
-  unfolding writeValue Lowest
+      → wordFor f a (Fraction p) ≡ pairWord f (p .negative) a (pair (p .numerator) (p .denominator))
+  unfolding wordFor Lowest
   fraction-word a p q low =
       let n : ℕ = p .numerator in
       let d : ℕ = p .denominator in
       let l : held (holds f) (pair n d) ≡ true = held-is (holds f) n d (q .some-denominator) ∙ q .holds-it in
       let r : round (holds f) n d ≡ pair n d = round-held (holds f) (format-limit f h) n d (q .some-denominator) l low in
       let m : differs n d (pair n d) ≡ false = sym (differs-not n d (pair n d) (omega arith)) in
-      let z : d ≡ 0 → ⊥ = λ e. omega (arith, q .some-denominator) in
-      rw (ne-eqb _ _ z, r, m, or-false a) refl
+      rw (r, m, or-false a) refl
+
+  -- a held number is no fraction over 0
+  pub held-over : (v : Value) → HeldNumber f v → isOverZero v ≡ false
+  unfolding HeldNumber isOverZero
+  held-over (Fraction p) q =
+      let z : p .denominator ≡ 0 → ⊥ = λ e. omega (arith, q .some-denominator) in
+      ne-eqb _ _ z
+  held-over (Zero s) q = refl
+  held-over (Infinity s) q = refl
+  held-over NotANumber q = refl
+
+  held-written : (x : Number) → HeldNumber f (x .value) → writeNumber f x ≡ done (wordFor f (x .approximate) (x .value))
+  held-written x q = sym (write-done f x h (held-over (x .value) q))
 
   -- what is written of a canonical number says that number
   canonical-says : (a : Bool) (v : Value) → HeldNumber f v → Reduced (record { value = v; approximate = a }) v
-      → (w : ℕ) → writeValue f a v ≡ done w → Says f w (record { value = v; approximate = a })
-  unfolding HeldNumber Reduced writeValue valueOf Lowest
-  canonical-says a (Fraction p) q low w e =
+      → Says f (wordFor f a v) (record { value = v; approximate = a })
+  unfolding HeldNumber Reduced wordFor valueOf Lowest
+  canonical-says a (Fraction p) q low =
       let n : ℕ = p .numerator in
       let d : ℕ = p .denominator in
       let l : held (holds f) (pair n d) ≡ true = held-is (holds f) n d (q .some-denominator) ∙ q .holds-it in
       let v : Fraction p ≡ valueOf (p .negative) (pair n d) =
       value-fraction (p .negative) n d (λ z. omega (arith, q .some-denominator)) (λ z. omega (arith, q .some-numerator))
       in
-      rw (← done-inj (sym (fraction-word a p q low) ∙ e), v) (pair-says f (p .negative) a n d h l (lowest-proper n d low))
-  canonical-says a (Zero s) q low w e =
-      rw (← done-inj e)
-      (pair-says f s a 0 1 h (zero-held f h) (record { zero-is = λ z. refl; infinity-is = λ z. absurd (omega arith) }))
-  canonical-says a (Infinity s) q low w e =
-      rw (← done-inj e)
-      (pair-says f s a 1 0 h (one-held (holds f)) (record { zero-is = λ z. absurd (omega arith); infinity-is = λ z. refl }))
-  canonical-says a NotANumber q low w e = rw (← done-inj e, low) (nan-says f h)
+      subst (λ (w : ℕ). Says f w (record { value = Fraction p; approximate = a })) (sym (fraction-word a p q low))
+      (rw v (pair-says f (p .negative) a n d h l (lowest-proper n d low)))
+  canonical-says a (Zero s) q low =
+      pair-says f s a 0 1 h (zero-held f h) (record { zero-is = λ z. refl; infinity-is = λ z. absurd (omega arith) })
+  canonical-says a (Infinity s) q low =
+      pair-says f s a 1 0 h (one-held (holds f)) (record { zero-is = λ z. absurd (omega arith); infinity-is = λ z. refl })
+  canonical-says a NotANumber q low = rw low (nan-says f h)
 
   pub read-written : (x : Number) → Canonical f x → (w : ℕ) → writeNumber f x ≡ done w → readWord f w ≡ done x
   read-written x c w e =
-      says-read h (canonical-says (x .approximate) (x .value) (c .is-held) (c .reduced) w (write-known f x h refl ∙ e))
+      let g : wordFor f (x .approximate) (x .value) ≡ w = done-inj (sym (held-written x (c .is-held)) ∙ e) in
+      subst (λ (v : ℕ). readWord f v ≡ done x) g
+      (says-read h (canonical-says (x .approximate) (x .value) (c .is-held) (c .reduced)))
 
   -- a fraction that is held, in lowest terms or not: its rounding is the same value, held, and in lowest terms
   module _ (p : Parts) (q : HeldParts f p) where
@@ -131,51 +142,50 @@ module _ (f : Format) (h : known f ≡ true) where
               ∙ round-best (holds f) (format-limit f h) N D (q .some-denominator) .isHeld;
         }
 
-    rounded-word : (a : Bool) → writeValue f a (Fraction p) ≡ done (pairWord f (p .negative) a R)
-    unfolding writeValue
+    rounded-word : (a : Bool) → wordFor f a (Fraction p) ≡ pairWord f (p .negative) a R
+    unfolding wordFor
     rounded-word a =
         let m : differs N D R ≡ false = sym (differs-not N D R rounded-exact) in
-        let z : D ≡ 0 → ⊥ = λ e. omega (arith, q .some-denominator) in
-        rw (ne-eqb _ _ z, m, or-false a) refl
+        rw (m, or-false a) refl
 
     fraction-back : (a : Bool) → WrittenBack f (record { value = Fraction p; approximate = a })
     unfolding Lowest HeldNumber Reduced SameNumber SameValue
     fraction-back a =
-        let low = round-lowest (holds f) (format-limit f h) N D in
-        let w : ℕ = pairWord f (p .negative) a R in
+        let x : Number = record { value = Fraction p; approximate = a } in
         let y : Number = record { value = Fraction lowest; approximate = a } in
+        let low = round-lowest (holds f) (format-limit f h) N D in
         let c : Canonical f y = record { is-held = lowest-held; reduced = low } in
-        let e : writeValue f a (Fraction p) ≡ done w = rounded-word a in
+        let w : ℕ = pairWord f (p .negative) a R in
         record {
           word = w;
-          written = sym (write-known f (record { value = Fraction p; approximate = a }) h (sym e));
+          written = held-written x q ∙ ap done (rounded-word a);
           number = y;
-          read = read-written y c w (sym (write-known f y h refl) ∙ fraction-word a lowest lowest-held low);
+          read = read-written y c w (held-written y lowest-held ∙ ap done (fraction-word a lowest lowest-held low));
           canonical = c;
           same = ((refl, omega (arith, rounded-exact)), inr refl);
         }
 
   -- a canonical number is written as a word that says it
-  kept : (x : Number) → Canonical f x → (w : ℕ) → writeValue f (x .approximate) (x .value) ≡ done w → SameNumber x x → WrittenBack f x
-  kept x c w e s =
-      let g : writeNumber f x ≡ done w = sym (write-known f x h refl) ∙ e in
-      record { word = w; written = g; number = x; read = read-written x c w g; canonical = c; same = s }
+  kept : (x : Number) → Canonical f x → SameNumber x x → WrittenBack f x
+  kept x c s =
+      let g = held-written x (c .is-held) in
+      record { word = wordFor f (x .approximate) (x .value); written = g; number = x; read = read-written x c _ g; canonical = c; same = s }
 
   -- writing any number that is held
   back : (a : Bool) (v : Value) → HeldNumber f v → WrittenBack f (record { value = v; approximate = a })
-  unfolding HeldNumber Reduced SameNumber SameValue writeValue
+  unfolding HeldNumber Reduced SameNumber SameValue wordFor
   back a (Fraction p) q = fraction-back p q a
-  back a (Zero s) q = kept (record { value = Zero s; approximate = a }) (record { is-held = tt; reduced = tt }) _ refl (refl, inr refl)
-  back a (Infinity s) q =
-      kept (record { value = Infinity s; approximate = a }) (record { is-held = tt; reduced = tt }) _ refl (refl, inr refl)
+  back a (Zero s) q = kept (record { value = Zero s; approximate = a }) (record { is-held = tt; reduced = tt }) (refl, inr refl)
+  back a (Infinity s) q = kept (record { value = Infinity s; approximate = a }) (record { is-held = tt; reduced = tt }) (refl, inr refl)
   back a NotANumber q =
+      let x : Number = record { value = NotANumber; approximate = a } in
       let y : Number = record { value = NotANumber; approximate = false } in
       let c : Canonical f y = record { is-held = tt; reduced = refl } in
       record {
         word = nanWord f;
-        written = sym (write-known f (record { value = NotANumber; approximate = a }) h refl);
+        written = held-written x tt;
         number = y;
-        read = read-written y c (nanWord f) (sym (write-known f y h refl));
+        read = read-written y c (nanWord f) (held-written y tt);
         canonical = c;
         same = (tt, inl refl);
       }
@@ -222,5 +232,5 @@ module _ (f : Format) (h : known f ≡ true) where
         record {
           number = y;
           canonical = record { is-held = g .parts; reduced = low };
-          written = sym (write-known f y h refl) ∙ fraction-word a p (g .parts) low ∙ ap done (g .again);
+          written = held-written y (g .parts) ∙ ap done (fraction-word a p (g .parts) low ∙ g .again);
         }

@@ -15,15 +15,10 @@ use Rattle.convergents.proofs.Optimal.{held-is}
 use Rattle.slash.specs.Answers.{Outcome, stop, done}
 use Rattle.slash.specs.Bits.{bitCount, leastPower}
 use Rattle.slash.specs.Formats.{isFixed, isFloating, known, ofKnown, makeFormat, slashBits, widthOf, holds, largestNumerator, largestDenominator}
-use Rattle.slash.specs.declared.answer.Stop.{Stop}
 use Rattle.slash.specs.declared.format.Format.{Format}
 use Rattle.slash.proofs.BitLaws.{least-power, least-count, bit-count-lt, bit-count-le, bit-count-pos, bit-count-mono, bit-count-zero}
 
 -- ---- answers
-
--- a stop made by `Stop::plain`
-pub plain-stop : {A : Type 0} (s : Stop) (n : ℕ) {o : Outcome A} → s ≡ record { number = n; place = 0 } → stop n 0 ≡ o → stop (s .number) (s .place) ≡ o
-plain-stop s n e h = ap (λ (t : Stop). stop (t .number) (t .place)) e ∙ h
 
 module _ {A : Type 0} (f : Format) (x : A) where
   pub of-known : known f ≡ true → done x ≡ ofKnown f x
@@ -135,14 +130,9 @@ and-parts false b h = let z : _≡_ {A = ℕ} 0 1 = cc in absurd (omega arith)
 
 module _ (f : Format) (r s : ℕ) where
   -- the answers of `is_held`
-  module _ (e : f .kind ≡ 1) (p : ℕ) (h : p ≡ 2 ^ f .k) where
-    pub holds-fixed : r ≤ p - 1 → leb s (p - 1) ≡ holds f r s
-    unfolding holds
-    holds-fixed l = rw (eq-eqb _ _ e, ← h, le-leb _ _ l) refl
-
-    pub holds-fixed-not : p - 1 < r → false ≡ holds f r s
-    unfolding holds
-    holds-fixed-not l = rw (eq-eqb _ _ e, ← h, lt-leb _ _ l) refl
+  pub holds-fixed : f .kind ≡ 1 → (p : ℕ) → p ≡ 2 ^ f .k → (leb r (p - 1) && leb s (p - 1)) ≡ holds f r s
+  unfolding holds
+  holds-fixed e p h = rw (eq-eqb _ _ e, h) refl
 
   pub holds-floating : (f .kind ≡ 1 → ⊥) → (a b : ℕ) → a ≡ bitCount r → b ≡ bitCount s → leb (a + b) (f .k) ≡ holds f r s
   unfolding holds
@@ -151,11 +141,15 @@ module _ (f : Format) (r s : ℕ) where
   pub fixed-holds : f .kind ≡ 1 → holds f r s ≡ true → (r < 2 ^ f .k) × (s < 2 ^ f .k)
   unfolding holds
   fixed-holds e h =
-      let g : (leb r (2 ^ f .k - 1) && leb s (2 ^ f .k - 1)) ≡ true = rw (eq-eqb _ _ e) at h in
+      let g : (leb r (2 ^ f .k - 1) && leb s (2 ^ f .k - 1)) ≡ true = holds-fixed e _ refl ∙ h in
       let w = and-parts (leb r (2 ^ f .k - 1)) (leb s (2 ^ f .k - 1)) g in
       let a : r ≤ 2 ^ f .k - 1 = leb-true _ _ (w .0) in
       let b : s ≤ 2 ^ f .k - 1 = leb-true _ _ (w .1) in
       (omega (arith, pow-pos (f .k)), omega (arith, pow-pos (f .k)))
+
+  -- and back
+  pub holds-both : f .kind ≡ 1 → r ≤ 2 ^ f .k - 1 → s ≤ 2 ^ f .k - 1 → holds f r s ≡ true
+  holds-both e i j = sym (holds-fixed e _ refl) ∙ ap₂ _&&_ (le-leb _ _ i) (le-leb _ _ j)
 
   pub floating-holds : (f .kind ≡ 1 → ⊥) → holds f r s ≡ true → bitCount r + bitCount s ≤ f .k
   floating-holds n h = leb-true _ _ (holds-floating n _ _ refl refl ∙ h)
@@ -171,13 +165,13 @@ format-limit f h = go (ℕ-discrete (f .kind) 1)
     fixed e = record {
       one =
           let l : 1 ≤ 2 ^ f .k - 1 = omega (arith, pow-mono (k .0)) in
-          sym (holds-fixed f 1 1 e _ refl l) ∙ le-leb _ _ l;
+          holds-both f 1 1 e l l;
       downward =
           λ r s r′ s′ t i j l.
           let w = fixed-holds f r s e t in
           let a : r′ ≤ 2 ^ f .k - 1 = omega arith in
           let b : s′ ≤ 2 ^ f .k - 1 = omega arith in
-          sym (holds-fixed f r′ s′ e _ refl a) ∙ le-leb _ _ b;
+          holds-both f r′ s′ e a b;
     }
 
     floating : (f .kind ≡ 1 → ⊥) → Limit (holds f)
@@ -232,7 +226,7 @@ module _ (f : Format) (h : known f ≡ true) where
           let m : ℕ = 2 ^ f .k - 1 in
           let l : one ≤ m = omega (arith, pow-mono (k .0)) in
           let i : m ≤ m = omega arith in
-          (sym (holds-fixed f m one e _ refl i) ∙ le-leb _ _ l, sym (holds-fixed f one m e _ refl l) ∙ le-leb _ _ i)
+          (holds-both f m one e i l, holds-both f one m e l i)
 
       floating : (f .kind ≡ 1 → ⊥) → (holds f (2 ^ (f .k - 1) - 1) one ≡ true) × (holds f one (2 ^ (f .k - 1) - 1) ≡ true)
       floating n =
@@ -268,3 +262,20 @@ module _ (f : Format) (h : known f ≡ true) where
           let b = floating-holds f r s n l in
           let c : bitCount s + bitCount r ≤ f .k = omega arith in
           rw (ne-eqb _ _ n) (below r s b, below s r c)
+
+  -- no part takes more than 31 bits
+  pub small-parts : (r s : ℕ) → holds f r s ≡ true → (r < 2 ^ 31) × (s < 2 ^ 31)
+  unfolding largestNumerator largestDenominator
+  small-parts r s l = go (ℕ-discrete (f .kind) 1)
+    where
+      most : (r ≤ largestNumerator f) × (s ≤ largestDenominator f)
+      most = largest-most r s l
+
+      go : Dec (f .kind ≡ 1) → (r < 2 ^ 31) × (s < 2 ^ 31)
+      go (yes e) =
+          let b : (r ≤ 2 ^ f .k - 1) × (s ≤ 2 ^ f .k - 1) = rw (eq-eqb _ _ e) at most in
+          omega (arith, pow-pos (f .k), pow-mono (fixed-k f h e))
+      go (no n) =
+          let b : (r ≤ 2 ^ (f .k - 1) - 1) × (s ≤ 2 ^ (f .k - 1) - 1) = rw (ne-eqb _ _ n) at most in
+          let i : f .k - 1 ≤ 31 = omega (arith, known-k f h) in
+          omega (arith, pow-pos (f .k - 1), pow-mono i)

@@ -1,4 +1,5 @@
 -- The laws that the functions' proofs cite.
+pub mod AnswerLaws
 pub mod BitLaws
 pub mod FormatLaws
 pub mod RoundingLaws
@@ -7,4 +8,3 @@ pub mod RoundTrip
 pub mod WriteLaws
 pub mod Recompose
 pub mod Canonical
-pub mod Edges

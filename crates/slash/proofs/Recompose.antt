@@ -21,7 +21,7 @@ use Rattle.slash.specs.declared.number.Value.{Value}
 use Rattle.slash.specs.declared.number.Value.the-variants.{Fraction, Zero, Infinity, NotANumber}
 use Rattle.slash.specs.declared.number.Number.{Number}
 use Rattle.slash.proofs.BitLaws.{pow-next, bits-lt, bit-count-is, bit-count-le}
-use Rattle.slash.proofs.FormatLaws.{known-k, width-fixed, width-floating, holds-fixed, holds-floating}
+use Rattle.slash.proofs.FormatLaws.{known-k, width-fixed, width-floating, holds-both, holds-floating}
 use Rattle.slash.proofs.WordLaws.{fixed-zero, fixed-nan-zero, fixed-infinity, fixed-nan-infinity, fixed-fraction, floating-zero, floating-fraction, special-infinity, special-nan, number-fixed, number-floating, stop-above, stop-undefined}
 use Rattle.slash.proofs.RoundTrip.{word-fixed, word-floating}
 
@@ -160,7 +160,7 @@ module _ (f : Format) (w : ℕ) (h : known f ≡ true) (c : wordStop f w ≡ 0) 
         let j : d ≤ 2 ^ k - 1 = omega (arith, bits-lt 0 k w) in
         rw (← same)
         (record {
-          parts = record { some-numerator = some .0; some-denominator = some .1; holds-it = sym (holds-fixed f n d e _ refl i) ∙ le-leb _ _ j };
+          parts = record { some-numerator = some .0; some-denominator = some .1; holds-it = holds-both f n d e i j };
           again = rw (← a) fixed-again;
         })
 

@@ -63,13 +63,13 @@ unfolding slashPosition
 slash-lt k w = bits-lt (k - 1) (slashBits k) w
 
 module _ (k w e : ℕ) (h : e ≡ slashPosition k w) where
+  pub undefined-is : (l p : ℕ) → l ≡ slashBits k → p ≡ 2 ^ l → (leb (k - 1) e && leb e (p - 2)) ≡ slashUndefined k w
+  unfolding slashUndefined
+  undefined-is l p le pe = rw (← h, pe, le) refl
+
   pub undefined-below : e < k - 1 → false ≡ slashUndefined k w
   unfolding slashUndefined
   undefined-below l = rw (← h, lt-leb _ _ l) refl
-
-  pub undefined-by : k - 1 ≤ e → (l p : ℕ) → l ≡ slashBits k → p ≡ 2 ^ l → leb e (p - 2) ≡ slashUndefined k w
-  unfolding slashUndefined
-  undefined-by g l p le pe = rw (← h, le-leb _ _ g, pe, le) refl
 
 module _ (s : Bool) (e f p : ℕ) (h : p ≡ 2 ^ e) where
   pub floating-zero : f / p ≡ 0 → Zero s ≡ floatingFraction s e f

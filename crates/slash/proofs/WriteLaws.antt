@@ -4,16 +4,17 @@ use mathlib.Core.Bool.{Bool, true, false, _||_}
 use Prim.Native.Nat.{ℕ, zero, suc, _≤_, _∣_}
 use native.Mathlib.Omega.{arith}
 use native.Mathlib.Nat.{dvd-refl, dvd-zero, eq-one-of-dvd-one}
-use borrow.Author.Tests.{eq-eqb, ne-eqb}
+use lib.Dec.{eqb}
+use borrow.Author.Tests.{eqb-false}
 use Rattle.convergents.specs.Pairs.{Pair, pair, differs}
 use Rattle.convergents.specs.Rounding.{held, round}
 use Rattle.convergents.specs.Best.{Best}
 use Rattle.convergents.proofs.Optimal.{held-is, one-held}
 use Rattle.convergents.proofs.Theorem.{round-best, round-lowest, round-held}
-use Rattle.slash.specs.Answers.{Outcome, stop, done, WhenDone}
+use Rattle.slash.specs.Answers.{stop, done}
 use Rattle.slash.specs.Formats.{known, holds}
 use Rattle.slash.specs.Rounding.{rounded}
-use Rattle.slash.specs.Words.{numberOf, pairWord, nanWord, writeValue, writeNumber, valueOf, pairOf, BestFor, BestWord}
+use Rattle.slash.specs.Words.{numberOf, pairWord, nanWord, wordFor, isOverZero, writeNumber, valueOf, pairOf, BestFor, BestWord}
 use Rattle.slash.specs.declared.format.Format.{Format}
 use Rattle.slash.specs.declared.number.Parts.{Parts}
 use Rattle.slash.specs.declared.number.Value.{Value}
@@ -57,12 +58,12 @@ module _ (f : Format) (h : known f ≡ true) where
 
   module _ (a : Bool) where
     -- a fraction: the pair and the mark that rounding gives, put in a word
-    module _ (p : Parts) (z : p .denominator ≡ 0 → ⊥) (r : Rounded) (re : r ≡ rounded f (p .numerator) (p .denominator))
+    module _ (p : Parts) (r : Rounded) (re : r ≡ rounded f (p .numerator) (p .denominator))
         (b : Best (holds f) (p .numerator) (p .denominator) (pair (r .numerator) (r .denominator)))
         (m : Bool) (me : m ≡ (a || r .approximate)) (w : ℕ) (we : w ≡ pairWord f (p .negative) m (pair (r .numerator) (r .denominator))) where
-      fraction-word : done w ≡ writeValue f a (Fraction p)
-      unfolding writeValue rounded
-      fraction-word = rw (ne-eqb _ _ z, we, me, re) refl
+      fraction-word : w ≡ wordFor f a (Fraction p)
+      unfolding wordFor rounded
+      fraction-word = rw (we, me, re) refl
 
       fraction-best : BestWord f (Fraction p) w
       unfolding BestWord rounded
@@ -73,39 +74,62 @@ module _ (f : Format) (h : known f ≡ true) where
           let proper : Proper (r .numerator) (r .denominator) = rw re (lowest-proper _ _ low) in
           best-back (p .negative) m (r .numerator) (r .denominator) w (b .isHeld) proper we N D b
 
-      pub write-rounded : (done w ≡ writeValue f a (Fraction p)) × BestWord f (Fraction p) w
-      write-rounded = (fraction-word, fraction-best)
+      pub word-rounded : (w ≡ wordFor f a (Fraction p)) × BestWord f (Fraction p) w
+      word-rounded = (fraction-word, fraction-best)
 
-    pub write-by-zero : (p : Parts) → p .denominator ≡ 0 → stop 6 0 ≡ writeValue f a (Fraction p)
-    unfolding writeValue
-    write-by-zero p z = rw (eq-eqb _ _ z) refl
-
-    pub write-zero : (s : Bool) (w : ℕ) → w ≡ pairWord f s a (pair 0 1) → (done w ≡ writeValue f a (Zero s)) × BestWord f (Zero s) w
-    unfolding writeValue BestWord
-    write-zero s w e = (
-      ap done e,
+    pub word-zero : (s : Bool) (w : ℕ) → w ≡ pairWord f s a (pair 0 1) → (w ≡ wordFor f a (Zero s)) × BestWord f (Zero s) w
+    unfolding wordFor BestWord
+    word-zero s w e = (
+      e,
       best-back s a 0 1 w zero-held (record { zero-is = λ q. refl; infinity-is = λ q. absurd (omega arith) }) e 0 1 zero-best,
     )
 
-    pub write-infinity : (s : Bool) (w : ℕ) → w ≡ pairWord f s a (pair 1 0) → (done w ≡ writeValue f a (Infinity s)) × BestWord f (Infinity s) w
-    unfolding writeValue BestWord
-    write-infinity s w e = (ap done e, tt)
+    pub word-infinity : (s : Bool) (w : ℕ) → w ≡ pairWord f s a (pair 1 0) → (w ≡ wordFor f a (Infinity s)) × BestWord f (Infinity s) w
+    unfolding wordFor BestWord
+    word-infinity s w e = (e, tt)
 
-    pub write-nan : (w : ℕ) → w ≡ nanWord f → (done w ≡ writeValue f a NotANumber) × BestWord f NotANumber w
-    unfolding writeValue BestWord
-    write-nan w e = (ap done e, tt)
+    pub word-nan : (w : ℕ) → w ≡ nanWord f → (w ≡ wordFor f a NotANumber) × BestWord f NotANumber w
+    unfolding wordFor BestWord
+    word-nan w e = (e, tt)
 
-  -- what is written of v, where the code has v as u
-  pub write-case : (a : Bool) (u v : Value) {o : Outcome ℕ} → u ≡ v
-      → (o ≡ writeValue f a v) × WhenDone o (λ w. BestWord f v w) → (o ≡ writeValue f a u) × WhenDone o (λ w. BestWord f u w)
-  write-case a u v {o} e r =
-      subst (λ (x : Value). (o ≡ writeValue f a x) × WhenDone o (λ w. BestWord f x w)) (sym e) r
+  -- the word of v, where the code has v as u
+  pub word-case : (a : Bool) (u v : Value) (w : ℕ) → u ≡ v → (w ≡ wordFor f a v) × BestWord f v w → (w ≡ wordFor f a u) × BestWord f u w
+  word-case a u v w e r = subst (λ (x : Value). (w ≡ wordFor f a x) × BestWord f x w) (sym e) r
+
+-- ---- fractions over 0
+
+pub over-fraction : (v : Value) (p : Parts) → v ≡ Fraction p → eqb (p .denominator) 0 ≡ isOverZero v
+unfolding isOverZero
+over-fraction v p e = rw e refl
+
+pub over-zero : (v : Value) (s : Bool) → v ≡ Zero s → false ≡ isOverZero v
+unfolding isOverZero
+over-zero v s e = rw e refl
+
+pub over-infinity : (v : Value) (s : Bool) → v ≡ Infinity s → false ≡ isOverZero v
+unfolding isOverZero
+over-infinity v s e = rw e refl
+
+pub over-nan : (v : Value) → v ≡ NotANumber → false ≡ isOverZero v
+unfolding isOverZero
+over-nan v e = rw e refl
+
+pub over-some : (v : Value) (p : Parts) → v ≡ Fraction p → isOverZero v ≡ false → 1 ≤ p .denominator
+over-some v p e h =
+    let n : p .denominator ≡ 0 → ⊥ = eqb-false _ _ (over-fraction v p e ∙ h) in
+    omega arith
+
+-- ---- the answers of `write`
 
 module _ (f : Format) (x : Number) where
   pub write-unknown : known f ≡ false → stop 1 0 ≡ writeNumber f x
   unfolding writeNumber
   write-unknown h = rw h refl
 
-  pub write-known : known f ≡ true → {o : Outcome ℕ} → o ≡ writeValue f (x .approximate) (x .value) → o ≡ writeNumber f x
+  pub write-over-zero : known f ≡ true → isOverZero (x .value) ≡ true → stop 6 0 ≡ writeNumber f x
   unfolding writeNumber
-  write-known h e = e ∙ rw h refl
+  write-over-zero h z = rw (h, z) refl
+
+  pub write-done : known f ≡ true → isOverZero (x .value) ≡ false → done (wordFor f (x .approximate) (x .value)) ≡ writeNumber f x
+  unfolding writeNumber
+  write-done h z = rw (h, z) refl

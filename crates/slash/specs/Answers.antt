@@ -19,6 +19,12 @@ pub data Outcome (A : Type 0) : Type 0 where
   stop : (number place : ℕ) → Outcome A
   done : A → Outcome A
 
+-- One step after another: a stop ends it.
+infixr 1 _then_
+abbrev pub _then_ : {A B : Type 0} → Outcome A → (A → Outcome B) → Outcome B
+stop number place then next = stop number place
+done x then next = next x
+
 -- What holds of what a call makes, where it is done.
 abbrev pub WhenDone : {A : Type 0} → Outcome A → (A → Type 0) → Type 0
 WhenDone (stop number place) P = Unit {0}

@@ -5,4 +5,3 @@ pub mod Formats
 pub mod Words
 pub mod Rounding
 pub mod Canonical
-pub mod Edges

@@ -110,19 +110,29 @@ pairWord f s a x =
 unfoldable pub nanWord : Format → ℕ
 nanWord f = if isFixed f then 0 else floatingNan (f .k)
 
--- The canonical word of a value and its mark: a fraction N/D is rounded into the format, and is marked if it was or rounding changed its
--- value; not-a-number has no mark. Stop 6 for a fraction with denominator 0.
-unfoldable pub writeValue : Format → Bool → Value → Outcome ℕ
-writeValue f a (Fraction p) =
+-- The canonical word of a value and a mark: a fraction N/D is rounded into the format, and is marked if it was or rounding changed its
+-- value; not-a-number has no mark.
+unfoldable pub wordFor : Format → Bool → Value → ℕ
+wordFor f a (Fraction p) =
     let x : Pair = round (holds f) (p .numerator) (p .denominator) in
-    if eqb (p .denominator) 0 then stop 6 0 else
-    done (pairWord f (p .negative) (a || differs (p .numerator) (p .denominator) x) x)
-writeValue f a (Zero s) = done (pairWord f s a (pair 0 1))
-writeValue f a (Infinity s) = done (pairWord f s a (pair 1 0))
-writeValue f a NotANumber = done (nanWord f)
+    pairWord f (p .negative) (a || differs (p .numerator) (p .denominator) x) x
+wordFor f a (Zero s) = pairWord f s a (pair 0 1)
+wordFor f a (Infinity s) = pairWord f s a (pair 1 0)
+wordFor f a NotANumber = nanWord f
 
+-- A fraction with denominator 0.
+unfoldable pub isOverZero : Value → Bool
+isOverZero (Fraction p) = eqb (p .denominator) 0
+isOverZero (Zero s) = false
+isOverZero (Infinity s) = false
+isOverZero NotANumber = false
+
+-- Stop 1, then 6 as rounding has it.
 unfoldable pub writeNumber : Format → Number → Outcome ℕ
-writeNumber f x = if not (known f) then stop 1 0 else writeValue f (x .approximate) (x .value)
+writeNumber f x =
+    if not (known f) then stop 1 0 else
+    if isOverZero (x .value) then stop 6 0 else
+    done (wordFor f (x .approximate) (x .value))
 
 -- ---- pairs and values
 

@@ -17,6 +17,9 @@ impl Stop {
     // Unknown kind or k.
     pub const FORMAT: u64 = 1;
 
+    // Unknown operation code.
+    pub const CODE: u64 = 2;
+
     // A word with bits above its width.
     pub const WIDTH: u64 = 4;
 
@@ -27,7 +30,7 @@ impl Stop {
     pub const DENOMINATOR: u64 = 6;
 
     // A stop that names no index and no line.
-    pub(crate) fn plain(number: u64) -> Stop
+    pub fn plain(number: u64) -> Stop
         ensures { λ r. ⌜ r ≡ record { number = number; place = 0 } ⌝ }
     {
         Stop {

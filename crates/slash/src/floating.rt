@@ -27,10 +27,7 @@ pub(crate) fn is_undefined(k: u64, w: u64) -> bool
     ensures { λ r. ⌜ r ≡ slashUndefined k w ⌝ }
 {
     let e = slash_position(k, w);
-    if e < k - 1 {
-        return false;
-    }
-    e <= power(slash_bits(k)) - 2
+    (k - 1 <= e) & (e <= power(slash_bits(k)) - 2)
 }
 
 // The value at a slash position e that parts the field f in a numerator and a denominator.

@@ -77,7 +77,7 @@ impl Format {
         }
     }
 
-    pub(crate) fn is_known(self) -> bool
+    pub fn is_known(self) -> bool
         ensures { λ r. ⌜ r ≡ known self ⌝ }
     {
         if self.k < Format::LEAST_K {

@@ -32,10 +32,7 @@ fn is_held(f: Format, r: u64, s: u64) -> bool
 {
     if f.kind == Format::FIXED {
         let most = power(f.k) - 1;
-        if most < r {
-            return false;
-        }
-        s <= most
+        (r <= most) & (s <= most)
     } else {
         bit_count(r) + bit_count(s) <= f.k
     }

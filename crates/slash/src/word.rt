@@ -1,12 +1,12 @@
 // Words, each way: what a word says, and the canonical word of a number.
 ghost use mathlib.Core.Path.{_≡_};
-ghost use mathlib.Core.Bool.{true, _||_};
-ghost use Prim.Native.Nat.{_<_};
+ghost use mathlib.Core.Bool.{true, false};
+ghost use Prim.Native.Nat.{_≤_, _<_};
 ghost use Rattle.convergents.specs.Pairs.{pair};
 ghost use Rattle.convergents.specs.Rounding.{held};
 ghost use Rattle.slash.specs.Answers.{outcome, readingOutcome, WhenDone};
 ghost use Rattle.slash.specs.Formats.{known, holds};
-ghost use Rattle.slash.specs.Words.{isAbove, wordStop, numberOf, readWord, pairWord, nanWord, writeValue, writeNumber, BestWord};
+ghost use Rattle.slash.specs.Words.{isAbove, wordStop, numberOf, readWord, pairWord, nanWord, wordFor, isOverZero, writeNumber, BestWord};
 use crate::answer::Answer;
 use crate::answer::Stop;
 use crate::fixed;
@@ -98,29 +98,37 @@ fn nan_word(f: Format) -> u64
 }
 
 // A fraction is rounded into the format, and marked if it was or rounding changed its value.
-fn write_fraction(f: Format, approximate: bool, p: Parts) -> Answer
-    requires { ⌜ known f ≡ true ⌝ }
-    ensures written { λ r. ⌜ outcome r ≡ writeValue f approximate (Value.Fraction p) ⌝ }
-    ensures best { λ r. ⌜ WhenDone (outcome r) (λ w. BestWord f (Value.Fraction p) w) ⌝ }
+fn fraction_word(f: Format, approximate: bool, p: Parts) -> u64
+    requires { ⌜ (known f ≡ true) × (1 ≤ p .denominator) ⌝ }
+    ensures written { λ r. ⌜ r ≡ wordFor f approximate (Value.Fraction p) ⌝ }
+    ensures best { λ r. ⌜ BestWord f (Value.Fraction p) r ⌝ }
 {
-    if p.denominator == 0 {
-        return Answer::Stopped(Stop::plain(Stop::DENOMINATOR));
-    }
     let r = last_held(f, p.numerator, p.denominator);
-    let marked = either(approximate, r.approximate);
-    Answer::Done(pair_word(f, p.negative, marked, r.numerator, r.denominator))
+    let marked = approximate | r.approximate;
+    pair_word(f, p.negative, marked, r.numerator, r.denominator)
 }
 
-fn write_value(f: Format, approximate: bool, v: Value) -> Answer
-    requires { ⌜ known f ≡ true ⌝ }
-    ensures written { λ r. ⌜ outcome r ≡ writeValue f approximate v ⌝ }
-    ensures best { λ r. ⌜ WhenDone (outcome r) (λ w. BestWord f v w) ⌝ }
+fn value_word(f: Format, approximate: bool, v: Value) -> u64
+    requires { ⌜ (known f ≡ true) × (isOverZero v ≡ false) ⌝ }
+    ensures written { λ r. ⌜ r ≡ wordFor f approximate v ⌝ }
+    ensures best { λ r. ⌜ BestWord f v r ⌝ }
 {
     match v {
-        Value::Fraction(p) => write_fraction(f, approximate, p),
-        Value::Zero(s) => Answer::Done(pair_word(f, s, approximate, 0, 1)),
-        Value::Infinity(s) => Answer::Done(pair_word(f, s, approximate, 1, 0)),
-        Value::NotANumber => Answer::Done(nan_word(f)),
+        Value::Fraction(p) => fraction_word(f, approximate, p),
+        Value::Zero(s) => pair_word(f, s, approximate, 0, 1),
+        Value::Infinity(s) => pair_word(f, s, approximate, 1, 0),
+        Value::NotANumber => nan_word(f),
+    }
+}
+
+fn is_over_zero(v: Value) -> bool
+    ensures { λ r. ⌜ r ≡ isOverZero v ⌝ }
+{
+    match v {
+        Value::Fraction(p) => p.denominator == 0,
+        Value::Zero(_) => false,
+        Value::Infinity(_) => false,
+        Value::NotANumber => false,
     }
 }
 
@@ -133,11 +141,8 @@ pub fn write(f: Format, x: Number) -> Answer
         return Answer::Stopped(Stop::plain(Stop::FORMAT));
     }
     let v = x.value;
-    write_value(f, x.approximate, v)
-}
-
-fn either(a: bool, b: bool) -> bool
-    ensures { λ r. ⌜ r ≡ (a || b) ⌝ }
-{
-    if a { true } else { b }
+    if is_over_zero(v) {
+        return Answer::Stopped(Stop::plain(Stop::DENOMINATOR));
+    }
+    Answer::Done(value_word(f, x.approximate, v))
 }

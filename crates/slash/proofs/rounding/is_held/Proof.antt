@@ -1,4 +1,4 @@
-use Rattle.slash.proofs.FormatLaws.{known-k, holds-fixed, holds-fixed-not, holds-floating}
+use Rattle.slash.proofs.FormatLaws.{known-k, holds-fixed, holds-floating}
 use Rattle.slash.proofs.BitLaws.{bit-count-le}
 use lib.Pow.{pow-pos}
 use native.Mathlib.Omega.{arith}
@@ -18,31 +18,27 @@ power-requires c κs = omega (arith, known-k _ (c .before .before .pre))
 sub-most : tie.Need-sub-most
 sub-most c = omega (arith, c .power .ensures, pow-pos (c .before .before .before .args .f .k))
 
--- src/rounding.rt:36:13
-returns : tie.Need-returns
-returns c = holds-fixed-not _ _ _ (c .before .before .if1 .taken) _ (c .before .power .ensures) (c .if2 .taken)
-
--- src/rounding.rt:40:9
+-- src/rounding.rt:37:9
 bit-count-requires : tie.Need-bit-count-requires
 bit-count-requires c κs = search needs
 
--- src/rounding.rt:40:24
+-- src/rounding.rt:37:24
 bit-count-requires-2 : tie.Need-bit-count-requires-2
 bit-count-requires-2 c κs = search needs
 
--- src/rounding.rt:40:9
+-- src/rounding.rt:37:9
 add-result : tie.Need-add-result
 add-result c =
     let a = c .before .before .before .before .args in
     omega (arith, c .before .bit-count .ensures, c .bit-count2 .ensures, bit-count-le (a .r) 64 (omega arith) (omega arith), bit-count-le (a .s) 64 (omega arith) (omega arith))
 
 -- src/rounding.rt:29:1
-returns-2 : tie.Need-returns-2
-returns-2 c = holds-fixed _ _ _ (c .before .before .if1 .taken) _ (c .before .power .ensures) (c .if2 .left)
+returns : tie.Need-returns
+returns c = holds-fixed _ _ _ (c .before .if1 .taken) _ (c .power .ensures)
 
 -- src/rounding.rt:29:1
-returns-3 : tie.Need-returns-3
-returns-3 c =
+returns-2 : tie.Need-returns-2
+returns-2 c =
     holds-floating _ _ _ (c .before .before .before .if1 .left) _ _ (c .before .before .bit-count .ensures) (c .before .bit-count2 .ensures)
 
 pub is-held-spec : {M : Type 1} → statement M
@@ -51,9 +47,8 @@ is-held-spec =
     (tie.spec
     power-requires
     sub-most
-    returns
     bit-count-requires
     bit-count-requires-2
     add-result
-    returns-2
-    returns-3)
+    returns
+    returns-2)

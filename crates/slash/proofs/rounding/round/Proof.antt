@@ -1,5 +1,5 @@
+use Rattle.slash.proofs.AnswerLaws.{plain-stop}
 use Rattle.slash.proofs.RoundingLaws.{ratio-unknown, ratio-zero, ratio-done}
-use Rattle.slash.proofs.FormatLaws.{plain-stop}
 use borrow.Author.Tests.{not-true, not-false}
 use native.Mathlib.Omega.{arith}
 use mathlib.Core.Path.{sym, _∙_}

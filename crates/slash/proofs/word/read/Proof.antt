@@ -1,5 +1,5 @@
+use Rattle.slash.proofs.AnswerLaws.{plain-stop}
 use Rattle.slash.proofs.WordLaws.{read-unknown, read-stop, read-done}
-use Rattle.slash.proofs.FormatLaws.{plain-stop}
 use borrow.Author.Tests.{not-true, not-false}
 use mathlib.Core.Path.{sym, _∙_}
 use borrow.Author.Needs.{needs}

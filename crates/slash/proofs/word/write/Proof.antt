@@ -1,7 +1,8 @@
-use Rattle.slash.proofs.WriteLaws.{write-unknown, write-known}
-use Rattle.slash.proofs.FormatLaws.{plain-stop}
+use Rattle.slash.proofs.AnswerLaws.{plain-stop}
+use Rattle.slash.proofs.WriteLaws.{write-unknown, write-over-zero, write-done}
+use Rattle.slash.specs.Answers.{done}
 use borrow.Author.Tests.{not-true, not-false}
-use mathlib.Core.Path.{sym, _∙_}
+use mathlib.Core.Path.{sym, ap, _∙_}
 use borrow.Author.Needs.{needs}
 use Rattle.slash.proofs.word.write.Statement.{statement}
 use Rattle.slash.proofs.word.write.Tie as tie
@@ -9,30 +10,62 @@ use Rattle.slash.proofs.word.write.Reads as reads
 use Rattle.slash.proofs.word.write.Lts as lts
 use Rattle.slash.proofs.answer.Stop.plain.Reads as plain-reads
 use Rattle.slash.proofs.format.Format.is_known.Reads as is-known-reads
-use Rattle.slash.proofs.word.write_value.Reads as write-value-reads
+use Rattle.slash.proofs.word.is_over_zero.Reads as is-over-zero-reads
+use Rattle.slash.proofs.word.value_word.Reads as value-word-reads
 
--- src/word.rt:109:9
+-- src/word.rt:138:9
 is-known-requires : tie.Need-is-known-requires
 is-known-requires c κs = search needs
 
--- src/word.rt:110:32
+-- src/word.rt:139:32
 plain-requires : tie.Need-plain-requires
 plain-requires c κs = search needs
 
--- src/word.rt:110:9
+-- src/word.rt:139:9
 returns : tie.Need-returns
 returns c =
     (plain-stop _ 1 (c .plain .ensures) (write-unknown _ _ (sym (c .before .before .is-known .ensures) ∙ not-true _ (c .before .if1 .taken))), tt)
 
--- src/word.rt:113:5
-write-value-requires : tie.Need-write-value-requires
-write-value-requires c κs = sym (c .before .is-known .ensures) ∙ not-false _ (c .if1 .left)
+-- src/word.rt:142:8
+is-over-zero-requires : tie.Need-is-over-zero-requires
+is-over-zero-requires c κs = search needs
 
--- src/word.rt:105:1
+-- src/word.rt:143:32
+plain-requires-2 : tie.Need-plain-requires-2
+plain-requires-2 c κs = search needs
+
+-- src/word.rt:143:9
 returns-2 : tie.Need-returns-2
-returns-2 c =
-    (write-known _ _ (sym (c .before .before .is-known .ensures) ∙ not-false _ (c .before .if1 .left)) (c .write-value .ensures .0), c .write-value .ensures .1)
+returns-2 c = (
+  plain-stop _ 6 (c .plain2 .ensures)
+      (write-over-zero _ _ (sym (c .before .before .before .before .is-known .ensures) ∙ not-false _ (c .before .before .before .if1 .left))
+      (sym (c .before .before .is-over-zero .ensures) ∙ c .before .if2 .taken)),
+  tt,
+)
+
+-- src/word.rt:145:18
+value-word-requires : tie.Need-value-word-requires
+value-word-requires c κs =
+    (sym (c .before .before .before .is-known .ensures) ∙ not-false _ (c .before .before .if1 .left), sym (c .before .is-over-zero .ensures) ∙ c .if2 .left)
+
+-- src/word.rt:134:1
+returns-3 : tie.Need-returns-3
+returns-3 c = (
+  ap done (c .value-word .ensures .0)
+      ∙ write-done _ _ (sym (c .before .before .before .before .is-known .ensures) ∙ not-false _ (c .before .before .before .if1 .left))
+      (sym (c .before .before .is-over-zero .ensures) ∙ c .before .if2 .left),
+  c .value-word .ensures .1,
+)
 
 pub write-spec : {M : Type 1} → statement M
 write-spec =
-    tie.close (tie.spec is-known-requires plain-requires returns write-value-requires returns-2)
+    tie.close
+    (tie.spec
+    is-known-requires
+    plain-requires
+    returns
+    is-over-zero-requires
+    plain-requires-2
+    returns-2
+    value-word-requires
+    returns-3)

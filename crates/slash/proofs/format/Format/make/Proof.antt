@@ -1,4 +1,5 @@
-use Rattle.slash.proofs.FormatLaws.{plain-stop, make-known, make-unknown}
+use Rattle.slash.proofs.AnswerLaws.{plain-stop}
+use Rattle.slash.proofs.FormatLaws.{make-known, make-unknown}
 use mathlib.Core.Path.{sym, _∙_}
 use borrow.Author.Needs.{needs}
 use Rattle.slash.proofs.format.Format.make.Statement.{statement}

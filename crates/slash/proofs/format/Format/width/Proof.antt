@@ -1,4 +1,5 @@
-use Rattle.slash.proofs.FormatLaws.{plain-stop, of-known, of-unknown}
+use Rattle.slash.proofs.AnswerLaws.{plain-stop}
+use Rattle.slash.proofs.FormatLaws.{of-known, of-unknown}
 use Rattle.slash.specs.Answers.{done}
 use mathlib.Core.Path.{sym, ap, _∙_}
 use borrow.Author.Needs.{needs}

@@ -1,11 +1,16 @@
-"""The cases that are asked, as request lines."""
+"""The cases on formats, words and rounding, as request lines."""
 
 import random
 
 import slash
+from cases_common import (
+    LARGEST,
+    asked_once,
+    random_part,
+    random_part_of_any_size,
+    request,
+)
 from slash import FIXED, FLOATING, FRACTION, INFINITY, NOT_A_NUMBER, ZERO, Format
-
-LARGEST = 2**64 - 1
 
 # Consecutive Fibonacci numbers, the last two below 2^64.
 FIBONACCI = (7540113804746346429, 12200160415121876738)
@@ -13,23 +18,7 @@ FIBONACCI = (7540113804746346429, 12200160415121876738)
 
 def requests():
     """All request lines in order, each asked once."""
-    lines = [line for group in GROUPS for line in group()]
-    return list(dict.fromkeys(lines))
-
-
-def request(letter, *numbers):
-    """One request line."""
-    return " ".join([letter, *map(str, numbers)])
-
-
-def random_part(rng, bits):
-    """A number from 1 to 2^bits - 1."""
-    return max(1, rng.getrandbits(bits))
-
-
-def random_part_of_any_size(rng):
-    """A number from 1 to 2^64 - 1 of a random bit count."""
-    return random_part(rng, 1 + rng.getrandbits(6))
+    return asked_once(GROUPS)
 
 
 # 1. Edges.

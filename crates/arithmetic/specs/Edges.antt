@@ -4,13 +4,14 @@ use mathlib.Core.Bool.{Bool, true, false, _&&_, not}
 use mathlib.Core.List.{List, [], _∷_}
 use lib.Dec.{eqb}
 use Rattle.convergents.specs.Choice.{if_then_else_}
 use Rattle.slash.specs.Answers.{Outcome, stop, done}
 use Rattle.slash.specs.Rounding.{roundRatio}
 use Rattle.slash.specs.Words.{writeNumber}
+use Rattle.arithmetic.specs.Binary.{binaryWord}
 use Rattle.slash.specs.declared.format.Format.{Format}
 use Rattle.slash.specs.declared.number.Value.the-variants.{Fraction}
 use Rattle.slash.specs.declared.number.Number.{Number}
 use Rattle.slash.specs.declared.rounding.Rounded.{Rounded}
 
 abbrev fixed : ℕ → Format
 fixed k = record { kind = 1; k = k }
@@ -30,6 +31,8 @@ pub data Edge : Type 0 where
   rounds : Format → (n d r s : ℕ) → Bool → Edge
   -- In this format n/d, with this mark, is written as this word.
   writes : Format → (n d : ℕ) → Bool → ℕ → Edge
+  -- In this format the words left and right add up to this word.
+  adds : Format → (left right sum : ℕ) → Edge
 
 unfoldable pub edges : List Edge
 edges =
@@ -39,8 +42,8 @@ edges =
     rounds (fixed 3) 15 2 7 1 approximate ∷
     rounds (fixed 3) 8 1 1 0 approximate ∷
     rounds (fixed 3) 7 1 7 1 exact ∷
-    -- 8/15, the sum of the words 13 and 15 (hexadecimal): 1/2, approximate
-    writes (fixed 3) 8 15 exact 0x1a ∷
+    -- 1/3 + 1/5 = 8/15 gives 1/2, approximate
+    adds (fixed 3) 0x13 0x15 0x1a ∷
     rounds (floating 4) 5 2 2 1 approximate ∷
     rounds (floating 4) 5 1 5 1 exact ∷
     rounds (floating 4) 9 1 1 0 approximate ∷
@@ -63,6 +66,7 @@ unfoldable pub agrees : Edge → Bool
 agrees (rounds f n d r s a) = isRounded r s a (roundRatio f n d)
 agrees (writes f n d a w) =
     isWord w (writeNumber f (record { value = Fraction (record { negative = false; numerator = n; denominator = d }); approximate = a }))
+agrees (adds f left right sum) = isWord sum (binaryWord f 1 left right)
 
 unfoldable pub allAgree : List Edge → Bool
 allAgree [] = true

@@ -1,0 +1,223 @@
+-- Laws of the binary operations, where the cases of the operands aren't enough. Assumes nothing.
+use mathlib.Core.Path.{_≡_, refl, sym, ap, _∙_, subst}
+use mathlib.Core.Bool.{Bool, true, false, not, _||_}
+use Prim.Native.Nat.{ℕ, _+_, _-_, _*_, _^_, _≤_, _<_}
+use native.Mathlib.Omega.{arith}
+use native.Mathlib.Nat.{one-le-mul}
+use native.Mathlib.Decide.{ℕ-discrete}
+use lib.Dec.{leb, eqb}
+use borrow.Author.Tests.{le-leb, lt-leb, eq-eqb, ne-eqb}
+use Rattle.convergents.specs.Choice.{if_then_else_}
+use Rattle.slash.specs.Answers.{Outcome, stop, done, _then_, WhenDone}
+use Rattle.slash.specs.Formats.{known}
+use Rattle.slash.specs.Words.{numberOf, readWord, wordFor, isOverZero, writeNumber, BestWord}
+use Rattle.slash.proofs.AnswerLaws.{then-stop, then-done, done-inj}
+use Rattle.slash.proofs.RoundTrip.{Says}
+use Rattle.slash.proofs.WriteLaws.{write-done}
+use Rattle.slash.proofs.Canonical.{read-says}
+use Rattle.slash.specs.declared.format.Format.{Format}
+use Rattle.slash.specs.declared.number.Parts.{Parts}
+use Rattle.slash.specs.declared.number.Value.{Value}
+use Rattle.slash.specs.declared.number.Value.the-variants.{Fraction, Zero, Infinity, NotANumber}
+use Rattle.slash.specs.declared.number.Number.{Number}
+use Rattle.arithmetic.specs.Operands.{operandOf, differ, turned, Small}
+use Rattle.arithmetic.specs.Binary.{sumSize, sumSign, sumParts, sumOf, timesInfinity, productParts, productOf, dividedBy, quotientOf, exactOf, exactValue, isBinary, combined, combinedWords, binaryWord}
+use Rattle.arithmetic.specs.declared.operand.Operand.{Operand}
+use Rattle.arithmetic.specs.declared.operand.Operand.the-variants.{Finite, Infinite, Unknown}
+use Rattle.arithmetic.proofs.OperandLaws.{small-turned}
+
+-- ---- the sum
+
+module _ (opposed : Bool) (ad bc : ℕ) where
+  pub size-less : opposed ≡ true → ad < bc → bc - ad ≡ sumSize opposed ad bc
+  unfolding sumSize
+  size-less e h = rw e (omega arith)
+
+  pub size-more : opposed ≡ true → bc ≤ ad → ad - bc ≡ sumSize opposed ad bc
+  unfolding sumSize
+  size-more e h = rw e (omega arith)
+
+  pub size-plus : opposed ≡ false → ad + bc ≡ sumSize opposed ad bc
+  unfolding sumSize
+  size-plus e = rw e refl
+
+module _ (s t : Bool) (ad bc size : ℕ) where
+  pub sign-zero : size ≡ 0 → false ≡ sumSign s t ad bc size
+  unfolding sumSign
+  sign-zero z = rw (eq-eqb _ _ z) refl
+
+  pub sign-left : (size ≡ 0 → ⊥) → bc ≤ ad → s ≡ sumSign s t ad bc size
+  unfolding sumSign
+  sign-left n h = rw (ne-eqb _ _ n, le-leb _ _ h) refl
+
+  pub sign-right : (size ≡ 0 → ⊥) → ad < bc → t ≡ sumSign s t ad bc size
+  unfolding sumSign
+  sign-right n h = rw (ne-eqb _ _ n, lt-leb _ _ h) refl
+
+pub parts-sum : (p q : Parts) (size : ℕ) (sign : Bool)
+    → size ≡ sumSize (differ (p .negative) (q .negative)) (p .numerator * q .denominator) (p .denominator * q .numerator)
+    → sign ≡ sumSign (p .negative) (q .negative) (p .numerator * q .denominator) (p .denominator * q .numerator) size
+    → record { negative = sign; numerator = size; denominator = p .denominator * q .denominator } ≡ sumParts p q
+unfolding sumParts
+parts-sum p q size sign e g = rw (g, e) refl
+
+-- ---- products and quotients
+
+module _ (s : Bool) (p : Parts) where
+  pub times-zero : p .numerator ≡ 0 → NotANumber ≡ timesInfinity s p
+  unfolding timesInfinity
+  times-zero z = rw (eq-eqb _ _ z) refl
+
+  pub times-some : (p .numerator ≡ 0 → ⊥) → Infinity (differ s (p .negative)) ≡ timesInfinity s p
+  unfolding timesInfinity
+  times-some n = rw (ne-eqb _ _ n) refl
+
+module _ (p q : Parts) where
+  pub divided-none : q .numerator ≡ 0 → p .numerator ≡ 0 → NotANumber ≡ dividedBy p q
+  unfolding dividedBy
+  divided-none z y = rw (eq-eqb _ _ z, eq-eqb _ _ y) refl
+
+  pub divided-infinity : q .numerator ≡ 0 → (p .numerator ≡ 0 → ⊥) → Infinity (differ (p .negative) (q .negative)) ≡ dividedBy p q
+  unfolding dividedBy
+  divided-infinity z n = rw (eq-eqb _ _ z, ne-eqb _ _ n) refl
+
+  pub divided-some : (q .numerator ≡ 0 → ⊥)
+      → Fraction (record { negative = differ (p .negative) (q .negative); numerator = p .numerator * q .denominator; denominator = p .denominator * q .numerator })
+      ≡ dividedBy p q
+  unfolding dividedBy
+  divided-some n = rw (ne-eqb _ _ n) refl
+
+-- ---- by code
+
+module _ (code : ℕ) (x y : Operand) where
+  pub exact-sum : code ≡ 1 → sumOf x y ≡ exactOf code x y
+  unfolding exactOf
+  exact-sum e = rw (eq-eqb _ _ e) refl
+
+  pub exact-difference : (code ≡ 1 → ⊥) → code ≡ 2 → sumOf x (turned y) ≡ exactOf code x y
+  unfolding exactOf
+  exact-difference n e = rw (ne-eqb _ _ n, eq-eqb _ _ e) refl
+
+  pub exact-product : (code ≡ 1 → ⊥) → (code ≡ 2 → ⊥) → code ≡ 3 → productOf x y ≡ exactOf code x y
+  unfolding exactOf
+  exact-product n m e = rw (ne-eqb _ _ n, ne-eqb _ _ m, eq-eqb _ _ e) refl
+
+  pub exact-quotient : (code ≡ 1 → ⊥) → (code ≡ 2 → ⊥) → (code ≡ 3 → ⊥) → quotientOf x y ≡ exactOf code x y
+  unfolding exactOf
+  exact-quotient n m l = rw (ne-eqb _ _ n, ne-eqb _ _ m, ne-eqb _ _ l) refl
+
+-- ---- no exact result is over 0
+
+some-not : (m : ℕ) → 1 ≤ m → eqb m 0 ≡ false
+some-not m h = let z : m ≡ 0 → ⊥ = λ e. omega arith in ne-eqb _ _ z
+
+over-sum : (x y : Operand) → Small x → Small y → isOverZero (sumOf x y) ≡ false
+unfolding sumOf sumParts isOverZero Small
+over-sum (Finite p) (Finite q) s t = some-not _ (one-le-mul (s .0) (t .0))
+over-sum (Finite p) (Infinite b) s t = refl
+over-sum (Infinite a) (Finite q) s t = refl
+over-sum (Infinite a) (Infinite b) s t = either (differ a b)
+  where
+    either : (c : Bool) → isOverZero (if c then NotANumber else Infinity a) ≡ false
+    either true = refl
+    either false = refl
+over-sum (Finite p) Unknown s t = refl
+over-sum (Infinite a) Unknown s t = refl
+over-sum Unknown y s t = refl
+
+over-times : (b : Bool) (p : Parts) → isOverZero (timesInfinity b p) ≡ false
+unfolding timesInfinity isOverZero
+over-times b p = either (eqb (p .numerator) 0)
+  where
+    either : (c : Bool) → isOverZero (if c then NotANumber else Infinity (differ b (p .negative))) ≡ false
+    either true = refl
+    either false = refl
+
+over-product : (x y : Operand) → Small x → Small y → isOverZero (productOf x y) ≡ false
+unfolding productOf productParts isOverZero Small
+over-product (Finite p) (Finite q) s t = some-not _ (one-le-mul (s .0) (t .0))
+over-product (Finite p) (Infinite b) s t = over-times b p
+over-product (Infinite a) (Finite q) s t = over-times a q
+over-product (Infinite a) (Infinite b) s t = refl
+over-product (Finite p) Unknown s t = refl
+over-product (Infinite a) Unknown s t = refl
+over-product Unknown y s t = refl
+
+over-divided : (p q : Parts) → Small (Finite p) → isOverZero (dividedBy p q) ≡ false
+unfolding isOverZero Small
+over-divided p q s = go (ℕ-discrete (q .numerator) 0) (ℕ-discrete (p .numerator) 0)
+  where
+    go : Dec (q .numerator ≡ 0) → Dec (p .numerator ≡ 0) → isOverZero (dividedBy p q) ≡ false
+    go (yes z) (yes y) = ap isOverZero (sym (divided-none p q z y))
+    go (yes z) (no n) = ap isOverZero (sym (divided-infinity p q z n))
+    go (no n) y =
+        let some : 1 ≤ q .numerator = omega arith in
+        ap isOverZero (sym (divided-some p q n)) ∙ some-not _ (one-le-mul (s .0) some)
+
+over-quotient : (x y : Operand) → Small x → Small y → isOverZero (quotientOf x y) ≡ false
+unfolding quotientOf isOverZero
+over-quotient (Finite p) (Finite q) s t = over-divided p q s
+over-quotient (Finite p) (Infinite b) s t = refl
+over-quotient (Infinite a) (Finite q) s t = refl
+over-quotient (Infinite a) (Infinite b) s t = refl
+over-quotient (Finite p) Unknown s t = refl
+over-quotient (Infinite a) Unknown s t = refl
+over-quotient Unknown y s t = refl
+
+pub over-exact : (code : ℕ) (x y : Operand) → Small x → Small y → isOverZero (exactOf code x y) ≡ false
+over-exact code x y s t = go (ℕ-discrete code 1) (ℕ-discrete code 2) (ℕ-discrete code 3)
+  where
+    go : Dec (code ≡ 1) → Dec (code ≡ 2) → Dec (code ≡ 3) → isOverZero (exactOf code x y) ≡ false
+    go (yes e) b c = ap isOverZero (sym (exact-sum code x y e)) ∙ over-sum x y s t
+    go (no n) (yes e) c = ap isOverZero (sym (exact-difference code x y n e)) ∙ over-sum x (turned y) s (small-turned y t)
+    go (no n) (no m) (yes e) = ap isOverZero (sym (exact-product code x y n m e)) ∙ over-product x y s t
+    go (no n) (no m) (no l) = ap isOverZero (sym (exact-quotient code x y n m l)) ∙ over-quotient x y s t
+
+-- ---- two words combined
+
+-- what is written of the exact result, where it is v
+pub combine-done : (f : Format) (code : ℕ) (x y : Number) (o : Outcome ℕ) (v : Value) (m : Bool) → known f ≡ true
+    → Small (operandOf (x .value)) → Small (operandOf (y .value)) → v ≡ exactValue code (x .value) (y .value) → m ≡ (x .approximate || y .approximate)
+    → (o ≡ writeNumber f (record { value = v; approximate = m })) × WhenDone o (λ w. BestWord f v w)
+    → (o ≡ done (combined f code x y)) × WhenDone o (λ w. BestWord f (exactValue code (x .value) (y .value)) w)
+unfolding combined exactValue
+combine-done f code x y o v m h s t ve me r =
+    let z : isOverZero v ≡ false = ap isOverZero ve ∙ over-exact code (operandOf (x .value)) (operandOf (y .value)) s t in (
+      r .0 ∙ sym (write-done f (record { value = v; approximate = m }) h z) ∙ rw (ve, me) refl,
+      subst (λ (u : Value). WhenDone o (λ w. BestWord f u w)) ve (r .1),
+    )
+
+module _ (f : Format) (code left right : ℕ) (h : known f ≡ true) where
+  pub combine-left : {n p : ℕ} → stop n p ≡ readWord f left → stop n p ≡ combinedWords f code left right
+  unfolding combinedWords
+  combine-left e = then-stop _ e
+
+  module _ (x : Number) (xe : done x ≡ readWord f left) where
+    pub combine-right : {n p : ℕ} → stop n p ≡ readWord f right → stop n p ≡ combinedWords f code left right
+    unfolding combinedWords
+    combine-right e = then-done _ xe (then-stop _ e)
+
+    pub combine-both : (y : Number) → done y ≡ readWord f right → (o : Outcome ℕ)
+        → (o ≡ done (combined f code x y)) × WhenDone o (λ w. BestWord f (exactValue code (x .value) (y .value)) w)
+        → (o ≡ combinedWords f code left right) × WhenDone o (λ w. BestWord f (exactValue code (numberOf f left .value) (numberOf f right .value)) w)
+    unfolding combinedWords
+    combine-both y ye o r =
+        let a : x ≡ numberOf f left = sym (read-says f h left x (sym xe) .number) in
+        let b : y ≡ numberOf f right = sym (read-says f h right y (sym ye) .number) in (
+          then-done _ xe (then-done _ ye (r .0)),
+          subst (λ (z : Number). WhenDone o (λ w. BestWord f (exactValue code (z .value) (numberOf f right .value)) w)) a
+              (subst (λ (z : Number). WhenDone o (λ w. BestWord f (exactValue code (x .value) (z .value)) w)) b (r .1)),
+        )
+
+  -- the answers of `binary`
+  pub binary-done : isBinary code ≡ true → {o : Outcome ℕ} → o ≡ combinedWords f code left right → o ≡ binaryWord f code left right
+  unfolding binaryWord
+  binary-done b e = e ∙ rw (h, b) refl
+
+  pub binary-code : isBinary code ≡ false → stop 2 0 ≡ binaryWord f code left right
+  unfolding binaryWord
+  binary-code b = rw (h, b) refl
+
+pub binary-unknown : (f : Format) (code left right : ℕ) → known f ≡ false → stop 1 0 ≡ binaryWord f code left right
+unfolding binaryWord
+binary-unknown f code left right h = rw h refl

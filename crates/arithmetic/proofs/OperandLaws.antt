@@ -1,0 +1,74 @@
+-- Laws of operands: what a word says is small, and a function of operands goes by their cases. Assumes nothing.
+use mathlib.Core.Path.{_≡_, refl, sym, ap, ap₂, _∙_, subst}
+use mathlib.Core.Bool.{true}
+use Prim.Native.Nat.{ℕ, _*_, _^_, _≤_, _<_}
+use native.Mathlib.Omega.{arith}
+use native.Mathlib.Nat.{mul-le-mul}
+use Rattle.slash.specs.Answers.{done}
+use Rattle.slash.specs.Formats.{known}
+use Rattle.slash.specs.Words.{readWord}
+use Rattle.slash.specs.Canonical.{HeldParts, HeldNumber}
+use Rattle.slash.proofs.FormatLaws.{small-parts}
+use Rattle.slash.proofs.Canonical.{read-held}
+use Rattle.slash.specs.declared.format.Format.{Format}
+use Rattle.slash.specs.declared.number.Parts.{Parts}
+use Rattle.slash.specs.declared.number.Value.{Value}
+use Rattle.slash.specs.declared.number.Value.the-variants.{Fraction, Zero, Infinity, NotANumber}
+use Rattle.slash.specs.declared.number.Number.{Number}
+use Rattle.arithmetic.specs.Operands.{operandOf, turned, Small}
+use Rattle.arithmetic.specs.declared.operand.Operand.{Operand}
+use Rattle.arithmetic.specs.declared.operand.Operand.the-variants.{Finite, Infinite, Unknown}
+
+-- what a function F comes to at a value that the code knows by its case
+pub at-one : {A B : Type 0} (F : A → B) {x u : A} {r : B} → x ≡ u → r ≡ F u → r ≡ F x
+at-one F e h = h ∙ ap F (sym e)
+
+pub at-both : {A B C : Type 0} (F : A → B → C) {x u : A} {y v : B} {r : C} → x ≡ u → y ≡ v → r ≡ F u v → r ≡ F x y
+at-both F e g h = h ∙ ap₂ F (sym e) (sym g)
+
+-- ---- sizes
+
+product-lt : {a b : ℕ} → a < 2 ^ 31 → b < 2 ^ 31 → a * b < 2 ^ 62
+product-lt {a} {b} h k =
+    let i : a ≤ 2147483647 = omega arith in
+    let j : b ≤ 2147483647 = omega arith in
+    omega (arith, mul-le-mul i j)
+
+-- the products of the parts of two small operands
+pub record Products (p q : Parts) : Type 0 where
+  pub ad : p .numerator * q .denominator < 2 ^ 62
+  pub bc : p .denominator * q .numerator < 2 ^ 62
+  pub ac : p .numerator * q .numerator < 2 ^ 62
+  pub bd : p .denominator * q .denominator < 2 ^ 62
+
+pub products : {p q : Parts} → Small (Finite p) → Small (Finite q) → Products p q
+unfolding Small
+products s t =
+    record {
+      ad = product-lt (s .2) (t .1);
+      bc = product-lt (s .1) (t .2);
+      ac = product-lt (s .2) (t .2);
+      bd = product-lt (s .1) (t .1);
+    }
+
+pub small-finite : {x : Operand} {p : Parts} → x ≡ Finite p → Small x → Small (Finite p)
+small-finite e s = subst Small e s
+
+pub small-turned : (x : Operand) → Small x → Small (turned x)
+unfolding turned Small
+small-turned (Finite p) s = s
+small-turned (Infinite t) s = tt
+small-turned Unknown s = tt
+
+held-small : (f : Format) → known f ≡ true → (v : Value) → HeldNumber f v → Small (operandOf v)
+unfolding HeldNumber Small operandOf
+held-small f h (Fraction p) q =
+    let b = small-parts f h (p .numerator) (p .denominator) (q .holds-it) in
+    (q .some-denominator, b .1, b .0)
+held-small f h (Zero s) q = (omega arith, omega arith, omega arith)
+held-small f h (Infinity s) q = tt
+held-small f h NotANumber q = tt
+
+-- what a word says is small
+pub read-small : (f : Format) (w : ℕ) (x : Number) → known f ≡ true → readWord f w ≡ done x → Small (operandOf (x .value))
+read-small f w x h r = held-small f h (x .value) (read-held f h w x r)

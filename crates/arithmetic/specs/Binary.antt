@@ -1,0 +1,131 @@
+-- The four binary operations: the exact result, rounded once.
+use Prim.Native.Nat.{ℕ, _+_, _-_, _*_}
+use mathlib.Core.Bool.{Bool, true, false, not, _&&_, _||_}
+use lib.Dec.{leb, eqb}
+use Rattle.convergents.specs.Choice.{if_then_else_}
+use Rattle.slash.specs.Answers.{Outcome, stop, done, _then_}
+use Rattle.slash.specs.Formats.{known}
+use Rattle.slash.specs.Words.{readWord, wordFor}
+use Rattle.slash.specs.declared.format.Format.{Format}
+use Rattle.slash.specs.declared.number.Parts.{Parts}
+use Rattle.slash.specs.declared.number.Value.{Value}
+use Rattle.slash.specs.declared.number.Value.the-variants.{Fraction, Zero, Infinity, NotANumber}
+use Rattle.slash.specs.declared.number.Number.{Number}
+use Rattle.arithmetic.specs.Operands.{operandOf, differ, turned}
+use Rattle.arithmetic.specs.declared.operand.Operand.{Operand}
+use Rattle.arithmetic.specs.declared.operand.Operand.the-variants.{Finite, Infinite, Unknown}
+
+-- ---- adding and subtracting
+
+-- The size of ad ± bc: plus where the two terms have the same sign, minus otherwise.
+unfoldable pub sumSize : (opposed : Bool) → ℕ → ℕ → ℕ
+sumSize true ad bc = (ad - bc) + (bc - ad)
+sumSize false ad bc = ad + bc
+
+-- The larger term's sign; an exact sum of 0 has sign 0.
+unfoldable pub sumSign : (s t : Bool) → (ad bc size : ℕ) → Bool
+sumSign s t ad bc size = if eqb size 0 then false else if leb bc ad then s else t
+
+-- a/b plus c/d: the size of ad ± bc over bd.
+unfoldable pub sumParts : Parts → Parts → Parts
+sumParts p q =
+    let ad : ℕ = p .numerator * q .denominator in
+    let bc : ℕ = p .denominator * q .numerator in
+    let size : ℕ = sumSize (differ (p .negative) (q .negative)) ad bc in
+    record {
+      negative = sumSign (p .negative) (q .negative) ad bc size;
+      numerator = size;
+      denominator = p .denominator * q .denominator;
+    }
+
+-- Finite plus infinity, either way round, is that signed infinity; infinity plus an equal sign is infinity, opposite signs not-a-number.
+unfoldable pub sumOf : Operand → Operand → Value
+sumOf (Finite p) (Finite q) = Fraction (sumParts p q)
+sumOf (Finite p) (Infinite t) = Infinity t
+sumOf (Infinite s) (Finite q) = Infinity s
+sumOf (Infinite s) (Infinite t) = if differ s t then NotANumber else Infinity s
+sumOf (Finite p) Unknown = NotANumber
+sumOf (Infinite s) Unknown = NotANumber
+sumOf Unknown y = NotANumber
+
+-- ---- multiplying
+
+-- ac over bd.
+unfoldable pub productParts : Parts → Parts → Parts
+productParts p q =
+    record {
+      negative = differ (p .negative) (q .negative);
+      numerator = p .numerator * q .numerator;
+      denominator = p .denominator * q .denominator;
+    }
+
+-- Zero times infinity is not-a-number; other products with infinity are infinity.
+unfoldable pub timesInfinity : Bool → Parts → Value
+timesInfinity s p = if eqb (p .numerator) 0 then NotANumber else Infinity (differ s (p .negative))
+
+unfoldable pub productOf : Operand → Operand → Value
+productOf (Finite p) (Finite q) = Fraction (productParts p q)
+productOf (Finite p) (Infinite t) = timesInfinity t p
+productOf (Infinite s) (Finite q) = timesInfinity s q
+productOf (Infinite s) (Infinite t) = Infinity (differ s t)
+productOf (Finite p) Unknown = NotANumber
+productOf (Infinite s) Unknown = NotANumber
+productOf Unknown y = NotANumber
+
+-- ---- dividing
+
+-- ad over bc; nonzero finite by zero is infinity, 0 by 0 not-a-number.
+unfoldable pub dividedBy : Parts → Parts → Value
+dividedBy p q =
+    if eqb (q .numerator) 0
+    then (if eqb (p .numerator) 0 then NotANumber else Infinity (differ (p .negative) (q .negative)))
+    else Fraction (record {
+      negative = differ (p .negative) (q .negative);
+      numerator = p .numerator * q .denominator;
+      denominator = p .denominator * q .numerator;
+    })
+
+-- Finite by infinity is zero; infinity by finite is infinity; infinity by infinity is not-a-number.
+unfoldable pub quotientOf : Operand → Operand → Value
+quotientOf (Finite p) (Finite q) = dividedBy p q
+quotientOf (Finite p) (Infinite t) = Zero (differ (p .negative) t)
+quotientOf (Infinite s) (Finite q) = Infinity (differ s (q .negative))
+quotientOf (Infinite s) (Infinite t) = NotANumber
+quotientOf (Finite p) Unknown = NotANumber
+quotientOf (Infinite s) Unknown = NotANumber
+quotientOf Unknown y = NotANumber
+
+-- ---- by code
+
+-- Codes 1 to 4: +, -, ×, ÷. Subtracting is adding the right operand with its sign turned.
+unfoldable pub exactOf : ℕ → Operand → Operand → Value
+exactOf code x y =
+    if eqb code 1 then sumOf x y else
+    if eqb code 2 then sumOf x (turned y) else
+    if eqb code 3 then productOf x y else
+    quotientOf x y
+
+-- The exact result, of two values. Its fraction's parts are demand 3's N and D; finite by infinity is zero, 0 over 1.
+unfoldable pub exactValue : ℕ → Value → Value → Value
+exactValue code v w = exactOf code (operandOf v) (operandOf w)
+
+unfoldable pub isBinary : ℕ → Bool
+isBinary code = leb 1 code && leb code 4
+
+-- The exact result of two numbers rounded, marked if an operand was or rounding changed the value.
+unfoldable pub combined : Format → ℕ → Number → Number → ℕ
+combined f code x y = wordFor f (x .approximate || y .approximate) (exactValue code (x .value) (y .value))
+
+-- Of two words: the left one's stop, 4 or 5, before the right one's.
+unfoldable pub combinedWords : Format → (code left right : ℕ) → Outcome ℕ
+combinedWords f code left right =
+    readWord f left then λ x.
+    readWord f right then λ y.
+    done (combined f code x y)
+
+-- Stop 1 for the format, 2 for the code, then the words'.
+unfoldable pub binaryWord : Format → (code left right : ℕ) → Outcome ℕ
+binaryWord f code left right =
+    if not (known f) then stop 1 0 else
+    if not (isBinary code) then stop 2 0 else
+    combinedWords f code left right

@@ -1,0 +1,241 @@
+// The four binary operations.
+ghost use mathlib.Core.Path.{_≡_};
+ghost use mathlib.Core.Bool.{true};
+ghost use Prim.Native.Nat.{_<_, _^_};
+ghost use Rattle.slash.specs.Answers.{outcome, done, WhenDone};
+ghost use Rattle.slash.specs.Formats.{known};
+ghost use Rattle.slash.specs.Words.{BestWord, numberOf};
+ghost use Rattle.arithmetic.specs.Operands.{Small, operandOf, turned};
+ghost use Rattle.arithmetic.specs.Binary.{sumSize, sumSign, sumParts, sumOf, timesInfinity, productParts, productOf, dividedBy, quotientOf, exactOf, exactValue, isBinary, combined, combinedWords, binaryWord};
+use crate::operand::Operand;
+use crate::operand::as_operand;
+use slash::Answer;
+use slash::Format;
+use slash::Number;
+use slash::Parts;
+use slash::Reading;
+use slash::Stop;
+use slash::Value;
+
+fn sum_size(opposed: bool, ad: u64, bc: u64) -> u64
+    requires { ⌜ (ad < 2 ^ 62) × (bc < 2 ^ 62) ⌝ }
+    ensures { λ r. ⌜ r ≡ sumSize opposed ad bc ⌝ }
+{
+    if opposed {
+        if ad < bc { bc - ad } else { ad - bc }
+    } else {
+        ad + bc
+    }
+}
+
+fn sum_sign(s: bool, t: bool, ad: u64, bc: u64, size: u64) -> bool
+    ensures { λ r. ⌜ r ≡ sumSign s t ad bc size ⌝ }
+{
+    if size == 0 {
+        false
+    } else {
+        if bc <= ad { s } else { t }
+    }
+}
+
+fn sum_parts(p: Parts, q: Parts) -> Parts
+    requires { ⌜ Small (Operand.Finite p) × Small (Operand.Finite q) ⌝ }
+    ensures { λ r. ⌜ r ≡ sumParts p q ⌝ }
+{
+    let ad = p.numerator * q.denominator;
+    let bc = p.denominator * q.numerator;
+    let size = sum_size(p.negative ^ q.negative, ad, bc);
+    Parts {
+        negative: sum_sign(p.negative, q.negative, ad, bc, size),
+        numerator: size,
+        denominator: p.denominator * q.denominator,
+    }
+}
+
+fn sum(x: Operand, y: Operand) -> Value
+    requires { ⌜ Small x × Small y ⌝ }
+    ensures { λ r. ⌜ r ≡ sumOf x y ⌝ }
+{
+    match x {
+        Operand::Unknown => Value::NotANumber,
+        Operand::Infinite(s) => match y {
+            Operand::Unknown => Value::NotANumber,
+            Operand::Finite(_) => Value::Infinity(s),
+            Operand::Infinite(t) => {
+                if s ^ t {
+                    Value::NotANumber
+                } else {
+                    Value::Infinity(s)
+                }
+            }
+        },
+        Operand::Finite(p) => match y {
+            Operand::Unknown => Value::NotANumber,
+            Operand::Infinite(t) => Value::Infinity(t),
+            Operand::Finite(q) => Value::Fraction(sum_parts(p, q)),
+        },
+    }
+}
+
+// An operand with its sign turned.
+fn turn(x: Operand) -> Operand
+    ensures { λ r. ⌜ r ≡ turned x ⌝ }
+{
+    match x {
+        Operand::Finite(p) => Operand::Finite(Parts {
+            negative: !p.negative,
+            numerator: p.numerator,
+            denominator: p.denominator,
+        }),
+        Operand::Infinite(s) => Operand::Infinite(!s),
+        Operand::Unknown => Operand::Unknown,
+    }
+}
+
+fn times_infinity(s: bool, p: Parts) -> Value
+    ensures { λ r. ⌜ r ≡ timesInfinity s p ⌝ }
+{
+    if p.numerator == 0 {
+        Value::NotANumber
+    } else {
+        Value::Infinity(s ^ p.negative)
+    }
+}
+
+fn product_parts(p: Parts, q: Parts) -> Parts
+    requires { ⌜ Small (Operand.Finite p) × Small (Operand.Finite q) ⌝ }
+    ensures { λ r. ⌜ r ≡ productParts p q ⌝ }
+{
+    Parts {
+        negative: p.negative ^ q.negative,
+        numerator: p.numerator * q.numerator,
+        denominator: p.denominator * q.denominator,
+    }
+}
+
+fn product(x: Operand, y: Operand) -> Value
+    requires { ⌜ Small x × Small y ⌝ }
+    ensures { λ r. ⌜ r ≡ productOf x y ⌝ }
+{
+    match x {
+        Operand::Unknown => Value::NotANumber,
+        Operand::Infinite(s) => match y {
+            Operand::Unknown => Value::NotANumber,
+            Operand::Finite(q) => times_infinity(s, q),
+            Operand::Infinite(t) => Value::Infinity(s ^ t),
+        },
+        Operand::Finite(p) => match y {
+            Operand::Unknown => Value::NotANumber,
+            Operand::Infinite(t) => times_infinity(t, p),
+            Operand::Finite(q) => Value::Fraction(product_parts(p, q)),
+        },
+    }
+}
+
+fn divided(p: Parts, q: Parts) -> Value
+    requires { ⌜ Small (Operand.Finite p) × Small (Operand.Finite q) ⌝ }
+    ensures { λ r. ⌜ r ≡ dividedBy p q ⌝ }
+{
+    let negative = p.negative ^ q.negative;
+    if q.numerator == 0 {
+        if p.numerator == 0 {
+            return Value::NotANumber;
+        }
+        return Value::Infinity(negative);
+    }
+    Value::Fraction(Parts {
+        negative: negative,
+        numerator: p.numerator * q.denominator,
+        denominator: p.denominator * q.numerator,
+    })
+}
+
+fn quotient(x: Operand, y: Operand) -> Value
+    requires { ⌜ Small x × Small y ⌝ }
+    ensures { λ r. ⌜ r ≡ quotientOf x y ⌝ }
+{
+    match x {
+        Operand::Unknown => Value::NotANumber,
+        Operand::Infinite(s) => match y {
+            Operand::Unknown => Value::NotANumber,
+            Operand::Finite(q) => Value::Infinity(s ^ q.negative),
+            Operand::Infinite(_) => Value::NotANumber,
+        },
+        Operand::Finite(p) => match y {
+            Operand::Unknown => Value::NotANumber,
+            Operand::Infinite(t) => Value::Zero(p.negative ^ t),
+            Operand::Finite(q) => divided(p, q),
+        },
+    }
+}
+
+// The exact result, by code: 1 adds, 2 subtracts, 3 multiplies, 4 divides.
+fn exact(code: u64, x: Operand, y: Operand) -> Value
+    requires { ⌜ Small x × Small y ⌝ }
+    ensures { λ r. ⌜ r ≡ exactOf code x y ⌝ }
+{
+    if code == 1 {
+        return sum(x, y);
+    }
+    if code == 2 {
+        return sum(x, turn(y));
+    }
+    if code == 3 {
+        return product(x, y);
+    }
+    quotient(x, y)
+}
+
+fn is_binary(code: u64) -> bool
+    ensures { λ r. ⌜ r ≡ isBinary code ⌝ }
+{
+    (1 <= code) & (code <= 4)
+}
+
+// The numbers that two words say, combined and written.
+fn combine(f: Format, code: u64, x: Number, y: Number) -> Answer
+    requires { ⌜ (known f ≡ true) × Small (operandOf (x .value)) × Small (operandOf (y .value)) ⌝ }
+    ensures written { λ r. ⌜ outcome r ≡ done (combined f code x y) ⌝ }
+    ensures best { λ r. ⌜ WhenDone (outcome r) (λ w. BestWord f (exactValue code (x .value) (y .value)) w) ⌝ }
+{
+    let v = x.value;
+    let w = y.value;
+    let exact = exact(code, as_operand(v), as_operand(w));
+    let marked = x.approximate | y.approximate;
+    slash::write(
+        f,
+        Number {
+            value: exact,
+            approximate: marked,
+        },
+    )
+}
+
+// The same of two words: the left one's stop before the right one's.
+fn combine_words(f: Format, code: u64, left: u64, right: u64) -> Answer
+    requires { ⌜ known f ≡ true ⌝ }
+    ensures written { λ r. ⌜ outcome r ≡ combinedWords f code left right ⌝ }
+    ensures best { λ r. ⌜ WhenDone (outcome r) (λ w. BestWord f (exactValue code (numberOf f left .value) (numberOf f right .value)) w) ⌝ }
+{
+    match slash::read(f, left) {
+        Reading::Stopped(s) => Answer::Stopped(s),
+        Reading::Done(x) => match slash::read(f, right) {
+            Reading::Stopped(s) => Answer::Stopped(s),
+            Reading::Done(y) => combine(f, code, x, y),
+        },
+    }
+}
+
+// left and right combined: code 1 adds, 2 subtracts, 3 multiplies, 4 divides.
+pub fn binary(f: Format, code: u64, left: u64, right: u64) -> Answer
+    ensures written { λ r. ⌜ outcome r ≡ binaryWord f code left right ⌝ }
+    ensures best { λ r. ⌜ WhenDone (outcome r) (λ w. BestWord f (exactValue code (numberOf f left .value) (numberOf f right .value)) w) ⌝ }
+{
+    if !f.is_known() {
+        return Answer::Stopped(Stop::plain(Stop::FORMAT));
+    }
+    if !is_binary(code) {
+        return Answer::Stopped(Stop::plain(Stop::CODE));
+    }
+    combine_words(f, code, left, right)
+}

@@ -1,0 +1,31 @@
+-- Laws of outcomes. Assumes nothing.
+use mathlib.Core.Path.{_≡_, sym, ap, _∙_}
+use Prim.Native.Nat.{ℕ}
+use Rattle.slash.specs.Answers.{Outcome, stop, done, _then_, readingOutcome}
+use Rattle.slash.specs.declared.answer.Stop.{Stop}
+use Rattle.slash.specs.declared.number.Number.{Number}
+use Rattle.slash.specs.declared.word.Reading.{Reading}
+use Rattle.slash.specs.declared.word.Reading.the-variants as Reading
+
+-- a stop made by `Stop::plain`
+pub plain-stop : {A : Type 0} (s : Stop) (n : ℕ) {o : Outcome A} → s ≡ record { number = n; place = 0 } → stop n 0 ≡ o → stop (s .number) (s .place) ≡ o
+plain-stop s n e h = ap (λ (t : Stop). stop (t .number) (t .place)) e ∙ h
+
+pub done-inj : {A : Type 0} {x y : A} → done x ≡ done y → x ≡ y
+done-inj e = cc
+
+-- what a step that stopped, or is done, comes to
+module _ {A B : Type 0} {o : Outcome A} (next : A → Outcome B) where
+  pub then-stop : {n p : ℕ} → stop n p ≡ o → stop n p ≡ (o then next)
+  then-stop {n} {p} e = ap (λ (q : Outcome A). q then next) e
+
+  pub then-done : {x : A} {r : Outcome B} → done x ≡ o → r ≡ next x → r ≡ (o then next)
+  then-done {x} {r} e h = h ∙ ap (λ (q : Outcome A). q then next) e
+
+-- what `read` answered, by its case
+module _ {r : Reading} {o : Outcome Number} (h : readingOutcome r ≡ o) where
+  pub reading-stop : {s : Stop} → r ≡ Reading.Stopped s → stop (s .number) (s .place) ≡ o
+  reading-stop e = sym (ap readingOutcome e) ∙ h
+
+  pub reading-done : {x : Number} → r ≡ Reading.Done x → done x ≡ o
+  reading-done e = sym (ap readingOutcome e) ∙ h

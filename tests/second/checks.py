@@ -1,0 +1,294 @@
+"""Checks of this program itself, before it answers anything."""
+
+import random
+from functools import lru_cache
+
+import operations
+import slash
+from answers import answer
+from cases_common import chosen, small_formats
+from slash import FIXED, FRACTION, ZERO
+
+# What the papers print: document 01's Edges, with 004's convergents and widths.
+PAPER_ANSWERS = [
+    ("n 1 9 277 642", "85/197 1"),
+    ("n 1 2 5 2", "2/1 1"),
+    ("n 1 3 1 10", "0/1 1"),
+    ("n 1 3 15 2", "7/1 1"),
+    ("n 1 3 8 1", "1/0 1"),
+    ("n 1 3 7 1", "7/1 0"),
+    ("n 2 4 5 2", "2/1 1"),
+    ("n 2 4 5 1", "5/1 0"),
+    ("n 2 4 9 1", "1/0 1"),
+    ("w 2 26 0 0 355 113 1", "4c0058f1"),
+    ("n 1 2 6 23", "1/3 1"),
+    ("n 1 3 6 23", "1/4 1"),
+    ("n 1 2 1 4", "0/1 1"),
+    ("f 1 1", "stop 1 0"),
+    ("f 2 1", "stop 1 0"),
+    ("f 1 32", "stop 1 0"),
+    ("f 1 15", "32 32767 32767"),
+    ("f 2 26", "32 33554431 33554431"),
+    ("w 1 15 0 0 277 642 0", "1150282"),
+    ("c 277 642", "1/0 0/1 1/2 3/7 19/44 22/51 85/197 277/642"),
+    (
+        "c 11612 30193",
+        "1/0 0/1 1/2 1/3 2/5 3/8 5/13 1288/3349 2581/6711 11612/30193",
+    ),
+    # 13 + 15 in hexadecimal gives 1a.
+    ("b 1 3 1 19 21", "1a"),
+    # Floor, ceiling and mod 1 of -2/3: -1, +0 and 1/3.
+    ("u 1 3 4 163", "91"),
+    ("u 1 3 5 163", "1"),
+    ("u 1 3 6 163", "13"),
+]
+
+# Worked out by hand from document 01's rules, which print no such words.
+RULE_ANSWERS = [
+    # Mod 1 of -1/3 in floating k = 3: 2/3 is not held, so 1/1, marked.
+    ("u 2 3 6 39", "11"),
+    # 6/23 from fixed k = 5 to k = 2 at once, then by way of k = 3.
+    ("v 1 5 1 2 407", "f"),
+    ("v 1 5 1 3 407", "1c"),
+    ("v 1 3 1 2 28", "5"),
+    # 355/113 with its mark from fixed k = 9 to floating k = 26.
+    ("v 1 9 2 26 364145", "4c0058f1"),
+    # Zero has the one quotient 0; infinity and not-a-number have none.
+    ("q 1 3 3 1", "1 0 4242 4242"),
+    ("q 1 3 2 16", "0 4242 4242"),
+    ("q 1 3 0 0", "0"),
+    ("q 1 3 1 19", "stop 7 0 4242"),
+    # Special values as fixed words of k = 3: the zeros 1 and 129, the infinities
+    # 16 and 144, 1/1 as 17 and 145, not-a-number 0.
+    ("b 1 3 1 129 129", "1"),
+    ("b 1 3 2 17 17", "1"),
+    ("b 1 3 3 129 17", "81"),
+    ("b 1 3 4 145 1", "90"),
+    ("b 1 3 1 17 144", "90"),
+    ("b 1 3 1 144 17", "90"),
+    ("b 1 3 2 17 144", "10"),
+    ("b 1 3 1 16 16", "10"),
+    ("b 1 3 1 16 144", "0"),
+    ("b 1 3 2 16 16", "0"),
+    ("b 1 3 3 1 16", "0"),
+    ("b 1 3 4 1 1", "0"),
+    ("b 1 3 4 16 144", "0"),
+    ("b 1 3 3 16 145", "90"),
+    ("b 1 3 4 144 17", "90"),
+    ("b 1 3 4 144 1", "90"),
+    ("b 1 3 4 145 16", "81"),
+    ("b 1 3 1 0 17", "0"),
+    ("b 1 3 1 24 144", "0"),
+    ("b 1 3 1 25 144", "98"),
+    ("u 1 3 3 129", "90"),
+    ("u 1 3 3 144", "81"),
+    ("u 1 3 6 16", "0"),
+    ("u 1 3 4 176", "90"),
+    ("u 1 3 1 176", "30"),
+    ("u 1 3 2 175", "2f"),
+    ("u 1 3 1 2", "0"),
+    ("o 1 3 1 129", "equal"),
+    ("o 1 3 16 48", "equal"),
+    ("o 1 3 144 129", "below"),
+    ("o 1 3 0 0", "unordered"),
+    ("g 1 3 34", "2"),
+    ("g 1 3 7", "0"),
+]
+
+
+def check_all():
+    """Asserts everything below."""
+    check_answers()
+    check_largest_parts()
+    check_descent()
+    check_demand_3()
+    check_unary()
+    check_quotients()
+
+
+def check_answers():
+    """Asserts the answers that the papers print, and those worked out from them."""
+    for request, expected in PAPER_ANSWERS + RULE_ANSWERS:
+        assert answer(request) == expected, (request, expected, answer(request))
+
+
+# Rounding.
+
+
+def check_largest_parts():
+    """Asserts that no held pair has a part larger than the largest, and one has it."""
+    for form in searched_formats(1):
+        parts = range(4 * slash.largest_numerator(form))
+        pairs = [(r, s) for s in parts[1:] for r in parts if slash.holds(form, r, s)]
+        assert max(r for r, s in pairs) == slash.largest_numerator(form)
+        assert max(s for r, s in pairs) == slash.largest_denominator(form)
+        assert sorted(pairs + [slash.INFINITY_PAIR]) == sorted(slash.held_pairs(form))
+
+
+def check_descent():
+    """Asserts that both ways of rounding agree, and the best pair is the only one."""
+    small = [(n, d) for n in range(21) for d in range(1, 21)]
+    for form in searched_formats(0):
+        for n, d in small:
+            check_rounding(form, n, d)
+    # Formats somewhat larger than those searched later on, and large ratios.
+    rng = random.Random(0)
+    for form in searched_formats(1):
+        for _ in range(40):
+            n, d = rng.getrandbits(64), rng.getrandbits(64)
+            check_rounding(form, n >> rng.getrandbits(6), (d >> rng.getrandbits(6)) + 1)
+
+
+def searched_formats(more):
+    """The formats whose pairs are all searched, and so many more of each kind."""
+    return [
+        form
+        for form in slash.all_formats()
+        if form.k <= slash.LARGEST_SEARCHED_K[form.kind] + more
+    ]
+
+
+def check_rounding(form, n, d):
+    """Asserts that search and descent find one pair, and no other ranks with it."""
+    best = slash.best_by_search(form, n, d)
+    assert best == slash.best_by_descent(form, n, d), (form, n, d)
+    best_rank = slash.rank(best, n, d)
+    ranks = [slash.rank(pair, n, d) for pair in slash.held_pairs(form)]
+    assert ranks.count(best_rank) == 1, (form, n, d)
+
+
+# Binary operations and conversions, by document 01's N over D, not reduced.
+
+
+def check_demand_3():
+    """Asserts demand 3 of a sample of results, against a loop over all pairs."""
+    rng = random.Random(1)
+    forms = small_formats(4, 6)
+    for form in forms:
+        words = finite_words(form)
+        for _ in range(120):
+            left, right = chosen(rng, words), chosen(rng, words)
+            for code in operations.BINARY:
+                check_binary(form, code, left, right)
+            check_conversion(form, chosen(rng, forms), left)
+
+
+def finite_words(form):
+    """The words of the format that are finite, each with its value."""
+    read = [(word, value_or_none(form, word)) for word in range(2 ** slash.width(form))]
+    return [(word, v) for word, v in read if v and v.value_class in (FRACTION, ZERO)]
+
+
+def value_or_none(form, word):
+    """The value of a word, or none for one that stops."""
+    try:
+        return slash.read_word(form, word)
+    except slash.Stop:
+        return None
+
+
+@lru_cache(maxsize=None)
+def pairs_of(form):
+    """Every held pair by another count of bits than slash.holds takes."""
+    parts = range(2**form.k)
+    pairs = [(r, s) for r in parts for s in parts[1:]]
+    if form.kind != FIXED:
+        # Both begin with 0b, and 0 has one digit.
+        pairs = [(r, s) for r, s in pairs if len(bin(r) + bin(s)) <= form.k + 4]
+    return pairs + [(1, 0)]
+
+
+def check_binary(form, code, left, right):
+    """Asserts demand 3, the sign and the mark of one binary result."""
+    (left_word, left_value), (right_word, right_value) = left, right
+    if code == 4 and right_value.value_class == ZERO:
+        return
+    sign, n, d = paper_result(code, left_value, right_value)
+    mark = left_value.mark | right_value.mark
+    word = operations.binary(form, code, left_word, right_word)
+    check_best(form, word, sign, n, d, mark)
+
+
+def paper_result(code, left, right):
+    """The sign, N and D of a finite result, as document 01 sets them out."""
+    a, b, c, d = left.numerator, left.denominator, right.numerator, right.denominator
+    if code == 3:
+        return left.sign ^ right.sign, a * c, b * d
+    if code == 4:
+        return left.sign ^ right.sign, a * d, b * c
+    right_sign = right.sign if code == 1 else 1 - right.sign
+    if left.sign == right_sign:
+        size, sign = a * d + b * c, left.sign
+    else:
+        size, sign = abs(a * d - b * c), left.sign if a * d > b * c else right_sign
+    return (sign if size else 0), size, b * d
+
+
+def check_conversion(form, target, source):
+    """Asserts demand 3, the sign and the mark of one conversion."""
+    source_word, value = source
+    word = operations.converted(form, target, source_word)
+    check_best(target, word, value.sign, value.numerator, value.denominator, value.mark)
+
+
+def check_best(form, word, sign, n, d, mark):
+    """Asserts that the word's pair is the only best for n/d, and its sign and mark."""
+    result = slash.read_word(form, word)
+    pair = result.numerator, result.denominator
+    missed, parts = abs(pair[1] * n - pair[0] * d), sum(pair)
+    for r, s in pairs_of(form):
+        other = abs(s * n - r * d)
+        better = (missed, parts) < (other, r + s)
+        assert better or (r, s) == pair, (form, word, n, d, r, s)
+    assert result.sign == sign, (form, word, n, d)
+    assert result.mark == (mark or int(missed != 0)), (form, word, n, d)
+
+
+# Operations on one word.
+
+
+def check_unary():
+    """Asserts what floor, ceiling, mod 1 and the rest mean, by whole numbers."""
+    for form in small_formats(4, 6):
+        for word, value in finite_words(form):
+            n = -value.numerator if value.sign else value.numerator
+            check_floors(form, word, n, value.denominator)
+            check_divisor(form, word, value)
+            negated = operations.unary(form, 1, word)
+            assert operations.unary(form, 1, negated) == word
+            assert slash.read_word(form, negated) == value._replace(sign=1 - value.sign)
+            assert operations.unary(form, 2, word) == min(word, negated)
+
+
+def check_floors(form, word, n, d):
+    """Asserts that floor and ceiling lie next to n/d, and mod 1 is what remains."""
+    below = whole_of(slash.read_word(form, operations.unary(form, 4, word)))
+    above = whole_of(slash.read_word(form, operations.unary(form, 5, word)))
+    assert below * d <= n < (below + 1) * d, (form, word)
+    assert (above - 1) * d < n <= above * d, (form, word)
+    mark = slash.read_word(form, word).mark
+    check_best(form, operations.unary(form, 6, word), 0, n - below * d, d, mark)
+
+
+def whole_of(value):
+    """The whole number that a value is; a zero has sign 0."""
+    assert value.denominator == 1 and (value.numerator or not value.sign)
+    return -value.numerator if value.sign else value.numerator
+
+
+def check_divisor(form, word, value):
+    """Asserts that the common divisor is the largest of all common divisors."""
+    n, d = value.numerator, value.denominator
+    common = [t for t in range(1, d + 1) if n % t == 0 and d % t == 0]
+    expected = max(common) if value.value_class == FRACTION else 0
+    assert operations.common_divisor(form, word) == expected, (form, word)
+
+
+def check_quotients():
+    """Asserts that partial quotients give back the value, and are at most 2k."""
+    for form in small_formats(4, 6):
+        for word, value in finite_words(form):
+            quotients = operations.quotients_of(form, word)
+            assert slash.truncated_value(quotients) == operations.size_of(value)
+            assert len(quotients) <= 2 * form.k and min(quotients[1:], default=1) >= 1
+            assert len(quotients) == 1 or quotients[-1] >= 2, (form, word)
