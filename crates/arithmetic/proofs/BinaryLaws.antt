@@ -1,17 +1,17 @@
 -- Laws of the binary operations, where the cases of the operands aren't enough. Assumes nothing.
 use mathlib.Core.Path.{_≡_, refl, sym, ap, _∙_, subst}
-use mathlib.Core.Bool.{Bool, true, false, not, _||_}
-use Prim.Native.Nat.{ℕ, _+_, _-_, _*_, _^_, _≤_, _<_}
+use mathlib.Core.Bool.{Bool, true, false, _||_}
+use Prim.Native.Nat.{ℕ, _+_, _-_, _*_, _≤_, _<_}
 use native.Mathlib.Omega.{arith}
 use native.Mathlib.Nat.{one-le-mul}
 use native.Mathlib.Decide.{ℕ-discrete}
-use lib.Dec.{leb, eqb}
+use lib.Dec.{eqb}
 use borrow.Author.Tests.{le-leb, lt-leb, eq-eqb, ne-eqb}
 use Rattle.convergents.specs.Choice.{if_then_else_}
 use Rattle.slash.specs.Answers.{Outcome, stop, done, _then_, WhenDone}
 use Rattle.slash.specs.Formats.{known}
-use Rattle.slash.specs.Words.{numberOf, readWord, wordFor, isOverZero, writeNumber, BestWord}
-use Rattle.slash.proofs.AnswerLaws.{then-stop, then-done, done-inj}
+use Rattle.slash.specs.Words.{numberOf, readWord, isOverZero, writeNumber, BestWord}
+use Rattle.slash.proofs.AnswerLaws.{then-stop, then-done}
 use Rattle.slash.proofs.RoundTrip.{Says}
 use Rattle.slash.proofs.WriteLaws.{write-done}
 use Rattle.slash.proofs.Canonical.{read-says}
@@ -20,10 +20,10 @@ use Rattle.slash.specs.declared.number.Parts.{Parts}
 use Rattle.slash.specs.declared.number.Value.{Value}
 use Rattle.slash.specs.declared.number.Value.the-variants.{Fraction, Zero, Infinity, NotANumber}
 use Rattle.slash.specs.declared.number.Number.{Number}
-use Rattle.arithmetic.specs.Operands.{operandOf, differ, turned, Small}
+use Rattle.arithmetic.specs.Operands.{isNan, operandOf, signOf, differ, turned, Small}
 use Rattle.arithmetic.specs.Binary.{sumSize, sumSign, sumParts, sumOf, timesInfinity, productParts, productOf, dividedBy, quotientOf, exactOf, exactValue, isBinary, combined, combinedWords, binaryWord}
 use Rattle.arithmetic.specs.declared.operand.Operand.{Operand}
-use Rattle.arithmetic.specs.declared.operand.Operand.the-variants.{Finite, Infinite, Unknown}
+use Rattle.arithmetic.specs.declared.operand.Operand.the-variants.{Finite, Infinite}
 use Rattle.arithmetic.proofs.OperandLaws.{small-turned}
 
 -- ---- the sum
@@ -68,22 +68,21 @@ module _ (s : Bool) (p : Parts) where
   unfolding timesInfinity
   times-zero z = rw (eq-eqb _ _ z) refl
 
-  pub times-some : (p .numerator ≡ 0 → ⊥) → Infinity (differ s (p .negative)) ≡ timesInfinity s p
+  pub times-some : (p .numerator ≡ 0 → ⊥) → Infinity s ≡ timesInfinity s p
   unfolding timesInfinity
   times-some n = rw (ne-eqb _ _ n) refl
 
-module _ (p q : Parts) where
-  pub divided-none : q .numerator ≡ 0 → p .numerator ≡ 0 → NotANumber ≡ dividedBy p q
+module _ (s : Bool) (p q : Parts) where
+  pub divided-none : q .numerator ≡ 0 → p .numerator ≡ 0 → NotANumber ≡ dividedBy s p q
   unfolding dividedBy
   divided-none z y = rw (eq-eqb _ _ z, eq-eqb _ _ y) refl
 
-  pub divided-infinity : q .numerator ≡ 0 → (p .numerator ≡ 0 → ⊥) → Infinity (differ (p .negative) (q .negative)) ≡ dividedBy p q
+  pub divided-infinity : q .numerator ≡ 0 → (p .numerator ≡ 0 → ⊥) → Infinity s ≡ dividedBy s p q
   unfolding dividedBy
   divided-infinity z n = rw (eq-eqb _ _ z, ne-eqb _ _ n) refl
 
   pub divided-some : (q .numerator ≡ 0 → ⊥)
-      → Fraction (record { negative = differ (p .negative) (q .negative); numerator = p .numerator * q .denominator; denominator = p .denominator * q .numerator })
-      ≡ dividedBy p q
+      → Fraction (record { negative = s; numerator = p .numerator * q .denominator; denominator = p .denominator * q .numerator }) ≡ dividedBy s p q
   unfolding dividedBy
   divided-some n = rw (ne-eqb _ _ n) refl
 
@@ -98,80 +97,83 @@ module _ (code : ℕ) (x y : Operand) where
   unfolding exactOf
   exact-difference n e = rw (ne-eqb _ _ n, eq-eqb _ _ e) refl
 
-  pub exact-product : (code ≡ 1 → ⊥) → (code ≡ 2 → ⊥) → code ≡ 3 → productOf x y ≡ exactOf code x y
-  unfolding exactOf
-  exact-product n m e = rw (ne-eqb _ _ n, ne-eqb _ _ m, eq-eqb _ _ e) refl
+  -- s and t are the signs
+  module _ (n : code ≡ 1 → ⊥) (m : code ≡ 2 → ⊥) (s t : Bool) (se : s ≡ signOf x) (te : t ≡ signOf y) where
+    pub exact-product : code ≡ 3 → productOf (differ s t) x y ≡ exactOf code x y
+    unfolding exactOf
+    exact-product e = rw (ne-eqb _ _ n, ne-eqb _ _ m, eq-eqb _ _ e, se, te) refl
 
-  pub exact-quotient : (code ≡ 1 → ⊥) → (code ≡ 2 → ⊥) → (code ≡ 3 → ⊥) → quotientOf x y ≡ exactOf code x y
-  unfolding exactOf
-  exact-quotient n m l = rw (ne-eqb _ _ n, ne-eqb _ _ m, ne-eqb _ _ l) refl
+    pub exact-quotient : (code ≡ 3 → ⊥) → quotientOf (differ s t) x y ≡ exactOf code x y
+    unfolding exactOf
+    exact-quotient l = rw (ne-eqb _ _ n, ne-eqb _ _ m, ne-eqb _ _ l, se, te) refl
+
+-- not-a-number, or the operands
+module _ (code : ℕ) (v w : Value) (b : Bool) (be : b ≡ (isNan v || isNan w)) where
+  pub exact-nan : b ≡ true → NotANumber ≡ exactValue code v w
+  unfolding exactValue
+  exact-nan e = rw (← be, e) refl
+
+  pub exact-operands : b ≡ false → (x y : Operand) → x ≡ operandOf v → y ≡ operandOf w → (r : Value) → r ≡ exactOf code x y → r ≡ exactValue code v w
+  unfolding exactValue
+  exact-operands e x y xe ye r re = re ∙ rw (← be, e, xe, ye) refl
 
 -- ---- no exact result is over 0
 
 some-not : (m : ℕ) → 1 ≤ m → eqb m 0 ≡ false
 some-not m h = let z : m ≡ 0 → ⊥ = λ e. omega arith in ne-eqb _ _ z
 
+-- neither of two values is over 0, so what is picked isn't
+over-either : (c : Bool) (v w : Value) → isOverZero v ≡ false → isOverZero w ≡ false → isOverZero (if c then v else w) ≡ false
+over-either true v w a b = a
+over-either false v w a b = b
+
 over-sum : (x y : Operand) → Small x → Small y → isOverZero (sumOf x y) ≡ false
 unfolding sumOf sumParts isOverZero Small
 over-sum (Finite p) (Finite q) s t = some-not _ (one-le-mul (s .0) (t .0))
 over-sum (Finite p) (Infinite b) s t = refl
 over-sum (Infinite a) (Finite q) s t = refl
-over-sum (Infinite a) (Infinite b) s t = either (differ a b)
-  where
-    either : (c : Bool) → isOverZero (if c then NotANumber else Infinity a) ≡ false
-    either true = refl
-    either false = refl
-over-sum (Finite p) Unknown s t = refl
-over-sum (Infinite a) Unknown s t = refl
-over-sum Unknown y s t = refl
+over-sum (Infinite a) (Infinite b) s t = over-either (differ a b) NotANumber (Infinity a) refl refl
 
-over-times : (b : Bool) (p : Parts) → isOverZero (timesInfinity b p) ≡ false
-unfolding timesInfinity isOverZero
-over-times b p = either (eqb (p .numerator) 0)
-  where
-    either : (c : Bool) → isOverZero (if c then NotANumber else Infinity (differ b (p .negative))) ≡ false
-    either true = refl
-    either false = refl
+over-product : (c : Bool) (x y : Operand) → Small x → Small y → isOverZero (productOf c x y) ≡ false
+unfolding productOf productParts timesInfinity isOverZero Small
+over-product c (Finite p) (Finite q) s t = some-not _ (one-le-mul (s .0) (t .0))
+over-product c (Finite p) (Infinite b) s t = over-either (eqb (p .numerator) 0) NotANumber (Infinity c) refl refl
+over-product c (Infinite a) (Finite q) s t = over-either (eqb (q .numerator) 0) NotANumber (Infinity c) refl refl
+over-product c (Infinite a) (Infinite b) s t = refl
 
-over-product : (x y : Operand) → Small x → Small y → isOverZero (productOf x y) ≡ false
-unfolding productOf productParts isOverZero Small
-over-product (Finite p) (Finite q) s t = some-not _ (one-le-mul (s .0) (t .0))
-over-product (Finite p) (Infinite b) s t = over-times b p
-over-product (Infinite a) (Finite q) s t = over-times a q
-over-product (Infinite a) (Infinite b) s t = refl
-over-product (Finite p) Unknown s t = refl
-over-product (Infinite a) Unknown s t = refl
-over-product Unknown y s t = refl
-
-over-divided : (p q : Parts) → Small (Finite p) → isOverZero (dividedBy p q) ≡ false
+over-divided : (c : Bool) (p q : Parts) → Small (Finite p) → isOverZero (dividedBy c p q) ≡ false
 unfolding isOverZero Small
-over-divided p q s = go (ℕ-discrete (q .numerator) 0) (ℕ-discrete (p .numerator) 0)
+over-divided c p q s = go (ℕ-discrete (q .numerator) 0) (ℕ-discrete (p .numerator) 0)
   where
-    go : Dec (q .numerator ≡ 0) → Dec (p .numerator ≡ 0) → isOverZero (dividedBy p q) ≡ false
-    go (yes z) (yes y) = ap isOverZero (sym (divided-none p q z y))
-    go (yes z) (no n) = ap isOverZero (sym (divided-infinity p q z n))
+    go : Dec (q .numerator ≡ 0) → Dec (p .numerator ≡ 0) → isOverZero (dividedBy c p q) ≡ false
+    go (yes z) (yes y) = ap isOverZero (sym (divided-none c p q z y))
+    go (yes z) (no n) = ap isOverZero (sym (divided-infinity c p q z n))
     go (no n) y =
         let some : 1 ≤ q .numerator = omega arith in
-        ap isOverZero (sym (divided-some p q n)) ∙ some-not _ (one-le-mul (s .0) some)
+        ap isOverZero (sym (divided-some c p q n)) ∙ some-not _ (one-le-mul (s .0) some)
 
-over-quotient : (x y : Operand) → Small x → Small y → isOverZero (quotientOf x y) ≡ false
+over-quotient : (c : Bool) (x y : Operand) → Small x → Small y → isOverZero (quotientOf c x y) ≡ false
 unfolding quotientOf isOverZero
-over-quotient (Finite p) (Finite q) s t = over-divided p q s
-over-quotient (Finite p) (Infinite b) s t = refl
-over-quotient (Infinite a) (Finite q) s t = refl
-over-quotient (Infinite a) (Infinite b) s t = refl
-over-quotient (Finite p) Unknown s t = refl
-over-quotient (Infinite a) Unknown s t = refl
-over-quotient Unknown y s t = refl
+over-quotient c (Finite p) (Finite q) s t = over-divided c p q s
+over-quotient c (Finite p) (Infinite b) s t = refl
+over-quotient c (Infinite a) (Finite q) s t = refl
+over-quotient c (Infinite a) (Infinite b) s t = refl
 
-pub over-exact : (code : ℕ) (x y : Operand) → Small x → Small y → isOverZero (exactOf code x y) ≡ false
-over-exact code x y s t = go (ℕ-discrete code 1) (ℕ-discrete code 2) (ℕ-discrete code 3)
+over-operands : (code : ℕ) (x y : Operand) → Small x → Small y → isOverZero (exactOf code x y) ≡ false
+over-operands code x y s t = go (ℕ-discrete code 1) (ℕ-discrete code 2) (ℕ-discrete code 3)
   where
+    c : Bool
+    c = differ (signOf x) (signOf y)
+
     go : Dec (code ≡ 1) → Dec (code ≡ 2) → Dec (code ≡ 3) → isOverZero (exactOf code x y) ≡ false
-    go (yes e) b c = ap isOverZero (sym (exact-sum code x y e)) ∙ over-sum x y s t
-    go (no n) (yes e) c = ap isOverZero (sym (exact-difference code x y n e)) ∙ over-sum x (turned y) s (small-turned y t)
-    go (no n) (no m) (yes e) = ap isOverZero (sym (exact-product code x y n m e)) ∙ over-product x y s t
-    go (no n) (no m) (no l) = ap isOverZero (sym (exact-quotient code x y n m l)) ∙ over-quotient x y s t
+    go (yes e) i j = ap isOverZero (sym (exact-sum code x y e)) ∙ over-sum x y s t
+    go (no n) (yes e) j = ap isOverZero (sym (exact-difference code x y n e)) ∙ over-sum x (turned y) s (small-turned y t)
+    go (no n) (no m) (yes e) = ap isOverZero (sym (exact-product code x y n m _ _ refl refl e)) ∙ over-product c x y s t
+    go (no n) (no m) (no l) = ap isOverZero (sym (exact-quotient code x y n m _ _ refl refl l)) ∙ over-quotient c x y s t
+
+pub over-exact : (code : ℕ) (v w : Value) → Small (operandOf v) → Small (operandOf w) → isOverZero (exactValue code v w) ≡ false
+unfolding exactValue isOverZero
+over-exact code v w s t = over-either (isNan v || isNan w) NotANumber _ refl (over-operands code (operandOf v) (operandOf w) s t)
 
 -- ---- two words combined
 
@@ -180,9 +182,9 @@ pub combine-done : (f : Format) (code : ℕ) (x y : Number) (o : Outcome ℕ) (v
     → Small (operandOf (x .value)) → Small (operandOf (y .value)) → v ≡ exactValue code (x .value) (y .value) → m ≡ (x .approximate || y .approximate)
     → (o ≡ writeNumber f (record { value = v; approximate = m })) × WhenDone o (λ w. BestWord f v w)
     → (o ≡ done (combined f code x y)) × WhenDone o (λ w. BestWord f (exactValue code (x .value) (y .value)) w)
-unfolding combined exactValue
+unfolding combined
 combine-done f code x y o v m h s t ve me r =
-    let z : isOverZero v ≡ false = ap isOverZero ve ∙ over-exact code (operandOf (x .value)) (operandOf (y .value)) s t in (
+    let z : isOverZero v ≡ false = ap isOverZero ve ∙ over-exact code (x .value) (y .value) s t in (
       r .0 ∙ sym (write-done f (record { value = v; approximate = m }) h z) ∙ rw (ve, me) refl,
       subst (λ (u : Value). WhenDone o (λ w. BestWord f u w)) ve (r .1),
     )

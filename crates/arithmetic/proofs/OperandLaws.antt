@@ -1,5 +1,5 @@
 -- Laws of operands: what a word says is small, and a function of operands goes by their cases. Assumes nothing.
-use mathlib.Core.Path.{_≡_, refl, sym, ap, ap₂, _∙_, subst}
+use mathlib.Core.Path.{_≡_, sym, ap, ap₂, _∙_, subst}
 use mathlib.Core.Bool.{true}
 use Prim.Native.Nat.{ℕ, _*_, _^_, _≤_, _<_}
 use native.Mathlib.Omega.{arith}
@@ -7,9 +7,9 @@ use native.Mathlib.Nat.{mul-le-mul}
 use Rattle.slash.specs.Answers.{done}
 use Rattle.slash.specs.Formats.{known}
 use Rattle.slash.specs.Words.{readWord}
-use Rattle.slash.specs.Canonical.{HeldParts, HeldNumber}
+use Rattle.slash.specs.Canonical.{HeldParts, HeldValue}
 use Rattle.slash.proofs.FormatLaws.{small-parts}
-use Rattle.slash.proofs.Canonical.{read-held}
+use Rattle.slash.proofs.Canonical.{read-known, read-held}
 use Rattle.slash.specs.declared.format.Format.{Format}
 use Rattle.slash.specs.declared.number.Parts.{Parts}
 use Rattle.slash.specs.declared.number.Value.{Value}
@@ -17,7 +17,7 @@ use Rattle.slash.specs.declared.number.Value.the-variants.{Fraction, Zero, Infi
 use Rattle.slash.specs.declared.number.Number.{Number}
 use Rattle.arithmetic.specs.Operands.{operandOf, turned, Small}
 use Rattle.arithmetic.specs.declared.operand.Operand.{Operand}
-use Rattle.arithmetic.specs.declared.operand.Operand.the-variants.{Finite, Infinite, Unknown}
+use Rattle.arithmetic.specs.declared.operand.Operand.the-variants.{Finite, Infinite}
 
 -- what a function F comes to at a value that the code knows by its case
 pub at-one : {A B : Type 0} (F : A → B) {x u : A} {r : B} → x ≡ u → r ≡ F u → r ≡ F x
@@ -58,10 +58,9 @@ pub small-turned : (x : Operand) → Small x → Small (turned x)
 unfolding turned Small
 small-turned (Finite p) s = s
 small-turned (Infinite t) s = tt
-small-turned Unknown s = tt
 
-held-small : (f : Format) → known f ≡ true → (v : Value) → HeldNumber f v → Small (operandOf v)
-unfolding HeldNumber Small operandOf
+held-small : (f : Format) → known f ≡ true → (v : Value) → HeldValue f v → Small (operandOf v)
+unfolding HeldValue Small operandOf
 held-small f h (Fraction p) q =
     let b = small-parts f h (p .numerator) (p .denominator) (q .holds-it) in
     (q .some-denominator, b .1, b .0)
@@ -70,5 +69,5 @@ held-small f h (Infinity s) q = tt
 held-small f h NotANumber q = tt
 
 -- what a word says is small
-pub read-small : (f : Format) (w : ℕ) (x : Number) → known f ≡ true → readWord f w ≡ done x → Small (operandOf (x .value))
-read-small f w x h r = held-small f h (x .value) (read-held f h w x r)
+pub read-small : (f : Format) (w : ℕ) (x : Number) → readWord f w ≡ done x → Small (operandOf (x .value))
+read-small f w x r = let h = read-known f w x r in held-small f h (x .value) (read-held f h w x r)

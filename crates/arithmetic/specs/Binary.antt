@@ -11,9 +11,9 @@ use Rattle.slash.specs.declared.number.Parts.{Parts}
 use Rattle.slash.specs.declared.number.Value.{Value}
 use Rattle.slash.specs.declared.number.Value.the-variants.{Fraction, Zero, Infinity, NotANumber}
 use Rattle.slash.specs.declared.number.Number.{Number}
-use Rattle.arithmetic.specs.Operands.{operandOf, differ, turned}
+use Rattle.arithmetic.specs.Operands.{isNan, operandOf, signOf, differ, turned}
 use Rattle.arithmetic.specs.declared.operand.Operand.{Operand}
-use Rattle.arithmetic.specs.declared.operand.Operand.the-variants.{Finite, Infinite, Unknown}
+use Rattle.arithmetic.specs.declared.operand.Operand.the-variants.{Finite, Infinite}
 
 -- ---- adding and subtracting
 
@@ -44,70 +44,51 @@ sumOf (Finite p) (Finite q) = Fraction (sumParts p q)
 sumOf (Finite p) (Infinite t) = Infinity t
 sumOf (Infinite s) (Finite q) = Infinity s
 sumOf (Infinite s) (Infinite t) = if differ s t then NotANumber else Infinity s
-sumOf (Finite p) Unknown = NotANumber
-sumOf (Infinite s) Unknown = NotANumber
-sumOf Unknown y = NotANumber
 
--- ---- multiplying
+-- ---- multiplying and dividing, with the product s of the signs
 
 -- ac over bd.
-unfoldable pub productParts : Parts → Parts → Parts
-productParts p q =
-    record {
-      negative = differ (p .negative) (q .negative);
-      numerator = p .numerator * q .numerator;
-      denominator = p .denominator * q .denominator;
-    }
+unfoldable pub productParts : Bool → Parts → Parts → Parts
+productParts s p q =
+    record { negative = s; numerator = p .numerator * q .numerator; denominator = p .denominator * q .denominator }
 
 -- Zero times infinity is not-a-number; other products with infinity are infinity.
 unfoldable pub timesInfinity : Bool → Parts → Value
-timesInfinity s p = if eqb (p .numerator) 0 then NotANumber else Infinity (differ s (p .negative))
+timesInfinity s p = if eqb (p .numerator) 0 then NotANumber else Infinity s
 
-unfoldable pub productOf : Operand → Operand → Value
-productOf (Finite p) (Finite q) = Fraction (productParts p q)
-productOf (Finite p) (Infinite t) = timesInfinity t p
-productOf (Infinite s) (Finite q) = timesInfinity s q
-productOf (Infinite s) (Infinite t) = Infinity (differ s t)
-productOf (Finite p) Unknown = NotANumber
-productOf (Infinite s) Unknown = NotANumber
-productOf Unknown y = NotANumber
-
--- ---- dividing
+unfoldable pub productOf : Bool → Operand → Operand → Value
+productOf s (Finite p) (Finite q) = Fraction (productParts s p q)
+productOf s (Finite p) (Infinite t) = timesInfinity s p
+productOf s (Infinite u) (Finite q) = timesInfinity s q
+productOf s (Infinite u) (Infinite t) = Infinity s
 
 -- ad over bc; nonzero finite by zero is infinity, 0 by 0 not-a-number.
-unfoldable pub dividedBy : Parts → Parts → Value
-dividedBy p q =
-    if eqb (q .numerator) 0
-    then (if eqb (p .numerator) 0 then NotANumber else Infinity (differ (p .negative) (q .negative)))
-    else Fraction (record {
-      negative = differ (p .negative) (q .negative);
-      numerator = p .numerator * q .denominator;
-      denominator = p .denominator * q .numerator;
-    })
+unfoldable pub dividedBy : Bool → Parts → Parts → Value
+dividedBy s p q =
+    if eqb (q .numerator) 0 then (if eqb (p .numerator) 0 then NotANumber else Infinity s) else
+    Fraction (record { negative = s; numerator = p .numerator * q .denominator; denominator = p .denominator * q .numerator })
 
 -- Finite by infinity is zero; infinity by finite is infinity; infinity by infinity is not-a-number.
-unfoldable pub quotientOf : Operand → Operand → Value
-quotientOf (Finite p) (Finite q) = dividedBy p q
-quotientOf (Finite p) (Infinite t) = Zero (differ (p .negative) t)
-quotientOf (Infinite s) (Finite q) = Infinity (differ s (q .negative))
-quotientOf (Infinite s) (Infinite t) = NotANumber
-quotientOf (Finite p) Unknown = NotANumber
-quotientOf (Infinite s) Unknown = NotANumber
-quotientOf Unknown y = NotANumber
+unfoldable pub quotientOf : Bool → Operand → Operand → Value
+quotientOf s (Finite p) (Finite q) = dividedBy s p q
+quotientOf s (Finite p) (Infinite t) = Zero s
+quotientOf s (Infinite u) (Finite q) = Infinity s
+quotientOf s (Infinite u) (Infinite t) = NotANumber
 
 -- ---- by code
 
--- Codes 1 to 4: +, -, ×, ÷. Subtracting is adding the right operand with its sign turned.
+-- Codes 1 to 4: +, -, ×, and ÷ for what is left. Subtracting is adding the right operand with its sign turned.
 unfoldable pub exactOf : ℕ → Operand → Operand → Value
 exactOf code x y =
     if eqb code 1 then sumOf x y else
     if eqb code 2 then sumOf x (turned y) else
-    if eqb code 3 then productOf x y else
-    quotientOf x y
+    if eqb code 3 then productOf (differ (signOf x) (signOf y)) x y else
+    quotientOf (differ (signOf x) (signOf y)) x y
 
--- The exact result, of two values. Its fraction's parts are demand 3's N and D; finite by infinity is zero, 0 over 1.
+-- The exact result of two values: any not-a-number operand gives one. A fraction's parts are demand 3's N and D; finite by infinity is
+-- zero, 0 over 1.
 unfoldable pub exactValue : ℕ → Value → Value → Value
-exactValue code v w = exactOf code (operandOf v) (operandOf w)
+exactValue code v w = if isNan v || isNan w then NotANumber else exactOf code (operandOf v) (operandOf w)
 
 unfoldable pub isBinary : ℕ → Bool
 isBinary code = leb 1 code && leb code 4

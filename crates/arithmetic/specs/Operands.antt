@@ -1,18 +1,28 @@
 -- Operands: a word's value as the operations take it.
 use Prim.Native.Nat.{ℕ, _≤_, _<_, _^_}
-use mathlib.Core.Bool.{Bool, not, Bool·beq}
+use mathlib.Core.Bool.{Bool, true, false, not, Bool·beq}
 use Rattle.slash.specs.declared.number.Parts.{Parts}
 use Rattle.slash.specs.declared.number.Value.{Value}
 use Rattle.slash.specs.declared.number.Value.the-variants.{Fraction, Zero, Infinity, NotANumber}
 use Rattle.arithmetic.specs.declared.operand.Operand.{Operand}
-use Rattle.arithmetic.specs.declared.operand.Operand.the-variants.{Finite, Infinite, Unknown}
+use Rattle.arithmetic.specs.declared.operand.Operand.the-variants.{Finite, Infinite}
 
--- Finite operands are read by their fields as a/b, zero as 0/1, the sign apart.
+unfoldable pub isNan : Value → Bool
+isNan (Fraction p) = false
+isNan (Zero s) = false
+isNan (Infinity s) = false
+isNan NotANumber = true
+
+-- Finite operands are read by their fields as a/b, zero as 0/1, the sign apart. (Not-a-number is taken out before: `isNan`.)
 unfoldable pub operandOf : Value → Operand
 operandOf (Fraction p) = Finite p
 operandOf (Zero s) = Finite (record { negative = s; numerator = 0; denominator = 1 })
 operandOf (Infinity s) = Infinite s
-operandOf NotANumber = Unknown
+operandOf NotANumber = Infinite false
+
+unfoldable pub signOf : Operand → Bool
+signOf (Finite p) = p .negative
+signOf (Infinite s) = s
 
 -- Whether two signs differ: products and quotients multiply signs.
 abbrev pub differ : Bool → Bool → Bool
@@ -22,10 +32,8 @@ differ s t = not (Bool·beq s t)
 unfoldable pub turned : Operand → Operand
 turned (Finite p) = Finite (record { negative = not (p .negative); numerator = p .numerator; denominator = p .denominator })
 turned (Infinite s) = Infinite (not s)
-turned Unknown = Unknown
 
 -- The parts of an operand that was read from a word take at most 31 bits, so that no product of two leaves 64. (For the code alone.)
 unfoldable pub Small : Operand → Type 0
 Small (Finite p) = (1 ≤ p .denominator) × (p .denominator < 2 ^ 31) × (p .numerator < 2 ^ 31)
 Small (Infinite s) = Unit {0}
-Small Unknown = Unit {0}

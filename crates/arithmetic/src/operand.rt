@@ -1,13 +1,13 @@
-// An operand of an operation: a finite value with its parts, an infinity, or not-a-number.
+// An operand of an operation: a finite value with its parts, or an infinity. Not-a-number is taken
+// out before.
 ghost use mathlib.Core.Path.{_≡_};
-ghost use Rattle.arithmetic.specs.Operands.{operandOf};
+ghost use Rattle.arithmetic.specs.Operands.{isNan, operandOf, signOf};
 use slash::Parts;
 use slash::Value;
 
 pub(crate) enum Operand {
     Finite(Parts),
     Infinite(bool),
-    Unknown,
 }
 
 // Zero is finite too, as 0/1.
@@ -22,6 +22,26 @@ pub(crate) fn as_operand(v: Value) -> Operand
             denominator: 1,
         }),
         Value::Infinity(s) => Operand::Infinite(s),
-        Value::NotANumber => Operand::Unknown,
+        Value::NotANumber => Operand::Infinite(false),
+    }
+}
+
+pub(crate) fn is_nan(v: Value) -> bool
+    ensures { λ r. ⌜ r ≡ isNan v ⌝ }
+{
+    match v {
+        Value::Fraction(_) => false,
+        Value::Zero(_) => false,
+        Value::Infinity(_) => false,
+        Value::NotANumber => true,
+    }
+}
+
+pub(crate) fn sign(x: Operand) -> bool
+    ensures { λ r. ⌜ r ≡ signOf x ⌝ }
+{
+    match x {
+        Operand::Finite(p) => p.negative,
+        Operand::Infinite(s) => s,
     }
 }

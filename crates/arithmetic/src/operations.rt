@@ -9,6 +9,8 @@ ghost use Rattle.arithmetic.specs.Operands.{Small, operandOf, turned};
 ghost use Rattle.arithmetic.specs.Binary.{sumSize, sumSign, sumParts, sumOf, timesInfinity, productParts, productOf, dividedBy, quotientOf, exactOf, exactValue, isBinary, combined, combinedWords, binaryWord};
 use crate::operand::Operand;
 use crate::operand::as_operand;
+use crate::operand::is_nan;
+use crate::operand::sign;
 use slash::Answer;
 use slash::Format;
 use slash::Number;
@@ -57,9 +59,11 @@ fn sum(x: Operand, y: Operand) -> Value
     ensures { λ r. ⌜ r ≡ sumOf x y ⌝ }
 {
     match x {
-        Operand::Unknown => Value::NotANumber,
+        Operand::Finite(p) => match y {
+            Operand::Finite(q) => Value::Fraction(sum_parts(p, q)),
+            Operand::Infinite(t) => Value::Infinity(t),
+        },
         Operand::Infinite(s) => match y {
-            Operand::Unknown => Value::NotANumber,
             Operand::Finite(_) => Value::Infinity(s),
             Operand::Infinite(t) => {
                 if s ^ t {
@@ -68,11 +72,6 @@ fn sum(x: Operand, y: Operand) -> Value
                     Value::Infinity(s)
                 }
             }
-        },
-        Operand::Finite(p) => match y {
-            Operand::Unknown => Value::NotANumber,
-            Operand::Infinite(t) => Value::Infinity(t),
-            Operand::Finite(q) => Value::Fraction(sum_parts(p, q)),
         },
     }
 }
@@ -88,7 +87,17 @@ fn turn(x: Operand) -> Operand
             denominator: p.denominator,
         }),
         Operand::Infinite(s) => Operand::Infinite(!s),
-        Operand::Unknown => Operand::Unknown,
+    }
+}
+
+fn product_parts(s: bool, p: Parts, q: Parts) -> Parts
+    requires { ⌜ Small (Operand.Finite p) × Small (Operand.Finite q) ⌝ }
+    ensures { λ r. ⌜ r ≡ productParts s p q ⌝ }
+{
+    Parts {
+        negative: s,
+        numerator: p.numerator * q.numerator,
+        denominator: p.denominator * q.denominator,
     }
 }
 
@@ -98,73 +107,57 @@ fn times_infinity(s: bool, p: Parts) -> Value
     if p.numerator == 0 {
         Value::NotANumber
     } else {
-        Value::Infinity(s ^ p.negative)
+        Value::Infinity(s)
     }
 }
 
-fn product_parts(p: Parts, q: Parts) -> Parts
-    requires { ⌜ Small (Operand.Finite p) × Small (Operand.Finite q) ⌝ }
-    ensures { λ r. ⌜ r ≡ productParts p q ⌝ }
-{
-    Parts {
-        negative: p.negative ^ q.negative,
-        numerator: p.numerator * q.numerator,
-        denominator: p.denominator * q.denominator,
-    }
-}
-
-fn product(x: Operand, y: Operand) -> Value
+// The product of two operands whose signs have the product s.
+fn product(s: bool, x: Operand, y: Operand) -> Value
     requires { ⌜ Small x × Small y ⌝ }
-    ensures { λ r. ⌜ r ≡ productOf x y ⌝ }
+    ensures { λ r. ⌜ r ≡ productOf s x y ⌝ }
 {
     match x {
-        Operand::Unknown => Value::NotANumber,
-        Operand::Infinite(s) => match y {
-            Operand::Unknown => Value::NotANumber,
-            Operand::Finite(q) => times_infinity(s, q),
-            Operand::Infinite(t) => Value::Infinity(s ^ t),
-        },
         Operand::Finite(p) => match y {
-            Operand::Unknown => Value::NotANumber,
-            Operand::Infinite(t) => times_infinity(t, p),
-            Operand::Finite(q) => Value::Fraction(product_parts(p, q)),
+            Operand::Finite(q) => Value::Fraction(product_parts(s, p, q)),
+            Operand::Infinite(_) => times_infinity(s, p),
+        },
+        Operand::Infinite(_) => match y {
+            Operand::Finite(q) => times_infinity(s, q),
+            Operand::Infinite(_) => Value::Infinity(s),
         },
     }
 }
 
-fn divided(p: Parts, q: Parts) -> Value
+fn divided(s: bool, p: Parts, q: Parts) -> Value
     requires { ⌜ Small (Operand.Finite p) × Small (Operand.Finite q) ⌝ }
-    ensures { λ r. ⌜ r ≡ dividedBy p q ⌝ }
+    ensures { λ r. ⌜ r ≡ dividedBy s p q ⌝ }
 {
-    let negative = p.negative ^ q.negative;
     if q.numerator == 0 {
         if p.numerator == 0 {
             return Value::NotANumber;
         }
-        return Value::Infinity(negative);
+        return Value::Infinity(s);
     }
     Value::Fraction(Parts {
-        negative: negative,
+        negative: s,
         numerator: p.numerator * q.denominator,
         denominator: p.denominator * q.numerator,
     })
 }
 
-fn quotient(x: Operand, y: Operand) -> Value
+// The quotient of two operands whose signs have the product s.
+fn quotient(s: bool, x: Operand, y: Operand) -> Value
     requires { ⌜ Small x × Small y ⌝ }
-    ensures { λ r. ⌜ r ≡ quotientOf x y ⌝ }
+    ensures { λ r. ⌜ r ≡ quotientOf s x y ⌝ }
 {
     match x {
-        Operand::Unknown => Value::NotANumber,
-        Operand::Infinite(s) => match y {
-            Operand::Unknown => Value::NotANumber,
-            Operand::Finite(q) => Value::Infinity(s ^ q.negative),
-            Operand::Infinite(_) => Value::NotANumber,
-        },
         Operand::Finite(p) => match y {
-            Operand::Unknown => Value::NotANumber,
-            Operand::Infinite(t) => Value::Zero(p.negative ^ t),
-            Operand::Finite(q) => divided(p, q),
+            Operand::Finite(q) => divided(s, p, q),
+            Operand::Infinite(_) => Value::Zero(s),
+        },
+        Operand::Infinite(_) => match y {
+            Operand::Finite(_) => Value::Infinity(s),
+            Operand::Infinite(_) => Value::NotANumber,
         },
     }
 }
@@ -180,10 +173,22 @@ fn exact(code: u64, x: Operand, y: Operand) -> Value
     if code == 2 {
         return sum(x, turn(y));
     }
+    let s = sign(x) ^ sign(y);
     if code == 3 {
-        return product(x, y);
+        return product(s, x, y);
     }
-    quotient(x, y)
+    quotient(s, x, y)
+}
+
+// The exact result of two values: any not-a-number operand gives one.
+fn exact_value(code: u64, v: Value, w: Value) -> Value
+    requires { ⌜ Small (operandOf v) × Small (operandOf w) ⌝ }
+    ensures { λ r. ⌜ r ≡ exactValue code v w ⌝ }
+{
+    if is_nan(v) | is_nan(w) {
+        return Value::NotANumber;
+    }
+    exact(code, as_operand(v), as_operand(w))
 }
 
 fn is_binary(code: u64) -> bool
@@ -200,7 +205,7 @@ fn combine(f: Format, code: u64, x: Number, y: Number) -> Answer
 {
     let v = x.value;
     let w = y.value;
-    let exact = exact(code, as_operand(v), as_operand(w));
+    let exact = exact_value(code, v, w);
     let marked = x.approximate | y.approximate;
     slash::write(
         f,

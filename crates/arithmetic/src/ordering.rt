@@ -1,12 +1,14 @@
 // Comparison of two words of one format.
 ghost use mathlib.Core.Path.{_≡_};
-ghost use Rattle.arithmetic.specs.Operands.{Small};
-ghost use Rattle.arithmetic.specs.Comparison.{comparisonOutcome, orderOf, signedOrder, compareOf, compareWords};
+ghost use Rattle.arithmetic.specs.Operands.{Small, operandOf};
+ghost use Rattle.arithmetic.specs.Comparison.{comparisonOutcome, orderOf, signedOrder, outside, compareOf, compareValues, compareWords};
 use crate::operand::Operand;
 use crate::operand::as_operand;
+use crate::operand::is_nan;
 use slash::Format;
 use slash::Reading;
 use slash::Stop;
+use slash::Value;
 
 pub enum Order {
     Below,
@@ -34,22 +36,26 @@ fn size_order(m: u64, n: u64) -> Order
 fn signed_order(s: bool, t: bool, m: u64, n: u64) -> Order
     ensures { λ r. ⌜ r ≡ signedOrder s t m n ⌝ }
 {
+    if (m == 0) & (n == 0) {
+        return Order::Equal;
+    }
     if s {
         if t {
             return size_order(n, m);
         }
-        if (m == 0) & (n == 0) {
-            return Order::Equal;
-        }
         return Order::Below;
     }
     if t {
-        if (m == 0) & (n == 0) {
-            return Order::Equal;
-        }
         return Order::Above;
     }
     size_order(m, n)
+}
+
+// Where an infinity of this sign lies.
+fn outside_all(s: bool) -> Order
+    ensures { λ r. ⌜ r ≡ outside s ⌝ }
+{
+    if s { Order::Below } else { Order::Above }
 }
 
 fn compare_operands(x: Operand, y: Operand) -> Order
@@ -57,31 +63,36 @@ fn compare_operands(x: Operand, y: Operand) -> Order
     ensures { λ r. ⌜ r ≡ compareOf x y ⌝ }
 {
     match x {
-        Operand::Unknown => Order::Unordered,
-        Operand::Infinite(s) => match y {
-            Operand::Unknown => Order::Unordered,
-            Operand::Finite(_) => signed_order(s, !s, 1, 1),
-            Operand::Infinite(t) => signed_order(s, t, 1, 1),
-        },
         Operand::Finite(p) => match y {
-            Operand::Unknown => Order::Unordered,
-            Operand::Infinite(t) => signed_order(!t, t, 1, 1),
             Operand::Finite(q) => signed_order(
                 p.negative,
                 q.negative,
                 p.numerator * q.denominator,
                 q.numerator * p.denominator,
             ),
+            Operand::Infinite(t) => outside_all(!t),
+        },
+        Operand::Infinite(s) => match y {
+            Operand::Finite(_) => outside_all(s),
+            Operand::Infinite(t) => { if s ^ t { outside_all(s) } else { Order::Equal } }
         },
     }
+}
+
+// Unordered if either is not-a-number.
+fn compare_values(v: Value, w: Value) -> Order
+    requires { ⌜ Small (operandOf v) × Small (operandOf w) ⌝ }
+    ensures { λ r. ⌜ r ≡ compareValues v w ⌝ }
+{
+    if is_nan(v) | is_nan(w) {
+        return Order::Unordered;
+    }
+    compare_operands(as_operand(v), as_operand(w))
 }
 
 pub fn compare(f: Format, left: u64, right: u64) -> Comparison
     ensures { λ r. ⌜ comparisonOutcome r ≡ compareWords f left right ⌝ }
 {
-    if !f.is_known() {
-        return Comparison::Stopped(Stop::plain(Stop::FORMAT));
-    }
     match slash::read(f, left) {
         Reading::Stopped(s) => Comparison::Stopped(s),
         Reading::Done(x) => match slash::read(f, right) {
@@ -89,7 +100,7 @@ pub fn compare(f: Format, left: u64, right: u64) -> Comparison
             Reading::Done(y) => {
                 let v = x.value;
                 let w = y.value;
-                Comparison::Done(compare_operands(as_operand(v), as_operand(w)))
+                Comparison::Done(compare_values(v, w))
             }
         },
     }

@@ -63,7 +63,7 @@ fn fed(line: Line, b: u8) -> Line {
     next
 }
 
-// A read of one buffer: how many bytes came, and the line after them.
+// The line after some bytes more.
 fn fed_all(line: Line, bytes: &[u8]) -> Line {
     let mut next = line;
     let mut i = 0;

@@ -1,4 +1,5 @@
 // Requests on formats, words and rounding.
+use crate::operations::show_word;
 use crate::show;
 use slash::Answer;
 use slash::Format;
@@ -81,10 +82,7 @@ pub(crate) fn write(f: Format, v: Value, approximate: bool) {
         value: v,
         approximate: approximate,
     };
-    match slash::write(f, x) {
-        Answer::Done(w) => show::hexadecimal(w),
-        Answer::Stopped(s) => show::stop(s),
-    }
+    show_word(slash::write(f, x));
 }
 
 // n KIND K N D: a ratio rounded.

@@ -1,5 +1,5 @@
 -- The rounding is the best pair: THE THEOREM is `round-best`. And what else is known of it, and of the list of convergents. Assumes nothing.
-use Prim.Native.Nat.{ℕ, zero, suc, _+_, _*_, _/_, _%_, _≤_, _<_, _∣_}
+use Prim.Native.Nat.{ℕ, zero, suc, _*_, _/_, _%_, _≤_, _<_, _∣_}
 use mathlib.Core.Path.{_≡_, refl, sym, ap, subst, _∙_}
 use mathlib.Core.Logic.{_⊎_, inl, inr, _≢_}
 use mathlib.Core.Bool.{Bool, true, false}
@@ -35,7 +35,7 @@ abbrev pub lastOf : ℕ → List ℕ → ℕ
 lastOf x [] = x
 lastOf x (a ∷ following) = lastOf a following
 
-euclid-done : (k n : ℕ) → euclid k n 0 ≡ []
+pub euclid-done : (k n : ℕ) → euclid k n 0 ≡ []
 unfolding euclid
 euclid-done zero n = refl
 euclid-done (suc k) n = refl

@@ -4,7 +4,7 @@ use mathlib.Core.List.{List, [], _∷_}
 use Rattle.convergents.specs.Pairs.{Pair, pair}
 
 -- Euclid's algorithm on n and d, at most `steps` steps of it: the quotient of n by d, then those of d and the remainder, until nothing is
--- left to divide by. A remainder is less than what it was divided by, so d steps are always enough (`quotients-enough`).
+-- left to divide by. A remainder is less than what it was divided by, so d steps are always enough (`euclid-enough`).
 unfoldable pub euclid : (steps : ℕ) → ℕ → ℕ → List ℕ
 euclid zero n d = []
 euclid (suc steps) n zero = []

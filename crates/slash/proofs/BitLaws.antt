@@ -1,17 +1,16 @@
 -- Laws of the bits of a number: how many there are, and the fields of a word. Assumes nothing.
 use mathlib.Core.Path.{_≡_, refl, sym, ap, _∙_, subst}
-use mathlib.Core.Logic.{_⊎_, inl, inr}
 use mathlib.Core.Bool.{Bool, true, false}
 use Prim.Native.Nat.{ℕ, zero, suc, _+_, _-_, _*_, _/_, _%_, _^_, _≤_, _<_}
 use native.Mathlib.Omega.{arith}
 use native.Mathlib.Decide.{decLe}
 use native.Mathlib.Numerals.{add-one}
-use native.Mathlib.Nat.{add-zero, zero-add, one-mul, mod-eq-of-lt, mod-lt, le-antisymm, mul-le-mul, le-mul-of-pos-right, pow-suc, div-one, div-lt-iff-lt-mul, le-div-iff-mul-le}
+use native.Mathlib.Nat.{add-zero, zero-add, one-mul, mod-eq-of-lt, mod-lt, le-antisymm, le-mul-of-pos-right, pow-suc, div-one, div-lt-iff-lt-mul}
 use lib.Dec.{leb, eqb}
 use lib.Arith.{digits-lt, digits-div, digits-mod}
 use lib.Pow.{pow-pos, pow-mono, pow-lt, pow-add, shr-shr}
 use lib.Count.{leadingZeros, leading-length}
-use borrow.Author.Tests.{leb-true, leb-false, eq-eqb, ne-eqb}
+use borrow.Author.Tests.{leb-true, leb-false, ne-eqb}
 use Rattle.slash.specs.Bits.{leastFrom, leastPower, bitCount, bits, bit, bitOf, fields}
 
 -- ---- powers of two

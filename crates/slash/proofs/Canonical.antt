@@ -1,13 +1,15 @@
 -- THE LAWS of reading and writing, for every format. Assumes nothing.
 -- `read-written`: reading what was written of a canonical number gives it back.
 -- `written-read`: writing what was read gives the canonical word of the same value (messages dropped).
--- `canonical-kept`: and the word itself where it is canonical; `lowest-canonical`: a fraction's word is, if it is in lowest terms.
+-- `canonical-kept`: and the word itself where it is canonical.
+-- `written-canonical`: every word that is written is canonical, and so is read without a stop.
 use mathlib.Core.Path.{_≡_, refl, sym, ap, _∙_, subst}
-use mathlib.Core.Bool.{Bool, true, false, _||_}
+use mathlib.Core.Bool.{Bool, true, false, or-false}
 use mathlib.Core.Logic.{inl, inr}
 use Prim.Native.Nat.{ℕ, _*_, _≤_}
 use native.Mathlib.Omega.{arith}
 use native.Mathlib.Decide.{ℕ-discrete}
+use native.Mathlib.Nat.{eq-one-of-dvd-one}
 use borrow.Author.Tests.{ne-eqb}
 use Rattle.convergents.specs.Pairs.{Pair, pair, miss, differs}
 use Rattle.convergents.specs.Rounding.{held, round}
@@ -17,7 +19,7 @@ use Rattle.convergents.proofs.Loop.{differs-not}
 use Rattle.slash.specs.Answers.{Outcome, stop, done}
 use Rattle.slash.specs.Formats.{known, holds}
 use Rattle.slash.specs.Words.{numberOf, wordStop, readWord, pairWord, nanWord, wordFor, isOverZero, writeNumber, valueOf}
-use Rattle.slash.specs.Canonical.{Lowest, HeldParts, HeldNumber, Reduced, Canonical, SameValue, SameNumber, CanonicalWord, WrittenBack}
+use Rattle.slash.specs.Canonical.{Lowest, HeldParts, HeldValue, Reduced, Canonical, SameValue, SameNumber, Stores, CanonicalWord, WrittenBack}
 use Rattle.slash.specs.declared.format.Format.{Format}
 use Rattle.slash.specs.declared.number.Parts.{Parts}
 use Rattle.slash.specs.declared.number.Value.{Value}
@@ -25,14 +27,13 @@ use Rattle.slash.specs.declared.number.Value.the-variants.{Fraction, Zer
 use Rattle.slash.specs.declared.number.Number.{Number}
 use Rattle.slash.proofs.AnswerLaws.{done-inj}
 use Rattle.slash.proofs.FormatLaws.{format-limit}
-use Rattle.slash.proofs.RoundTrip.{Proper, value-fraction, Says, says-read, pair-says, nan-says}
-use Rattle.slash.proofs.WordLaws.{read-stop, read-done}
-use Rattle.slash.proofs.WriteLaws.{lowest-proper, zero-held, write-done}
+use Rattle.slash.proofs.RoundTrip.{Proper, value-infinity, value-zero, value-fraction, Says, says-read, pair-says, nan-says}
+use Rattle.slash.proofs.WordLaws.{read-unknown, read-stop, read-done}
+use Rattle.slash.proofs.WriteLaws.{lowest-proper, zero-held, over-some, write-unknown, write-over-zero, write-done}
 use Rattle.slash.proofs.Recompose.{Fractional, fractional}
 
-or-false : (a : Bool) → (a || false) ≡ a
-or-false true = refl
-or-false false = refl
+no-stop : {A : Type 0} {n p : ℕ} {x : A} → stop n p ≡ done x → ⊥
+no-stop e = let z : _≡_ {A = ℕ} 0 1 = cc in omega arith
 
 module _ (f : Format) (h : known f ≡ true) where
   -- a held fraction in lowest terms is rounded to itself, exactly, so that its own parts are written
@@ -48,8 +49,8 @@ module _ (f : Format) (h : known f ≡ true) where
       rw (r, m, or-false a) refl
 
   -- a held number is no fraction over 0
-  pub held-over : (v : Value) → HeldNumber f v → isOverZero v ≡ false
-  unfolding HeldNumber isOverZero
+  pub held-over : (v : Value) → HeldValue f v → isOverZero v ≡ false
+  unfolding HeldValue isOverZero
   held-over (Fraction p) q =
       let z : p .denominator ≡ 0 → ⊥ = λ e. omega (arith, q .some-denominator) in
       ne-eqb _ _ z
@@ -57,13 +58,13 @@ module _ (f : Format) (h : known f ≡ true) where
   held-over (Infinity s) q = refl
   held-over NotANumber q = refl
 
-  held-written : (x : Number) → HeldNumber f (x .value) → writeNumber f x ≡ done (wordFor f (x .approximate) (x .value))
+  held-written : (x : Number) → HeldValue f (x .value) → writeNumber f x ≡ done (wordFor f (x .approximate) (x .value))
   held-written x q = sym (write-done f x h (held-over (x .value) q))
 
   -- what is written of a canonical number says that number
-  canonical-says : (a : Bool) (v : Value) → HeldNumber f v → Reduced (record { value = v; approximate = a }) v
+  canonical-says : (a : Bool) (v : Value) → HeldValue f v → Reduced a v
       → Says f (wordFor f a v) (record { value = v; approximate = a })
-  unfolding HeldNumber Reduced wordFor valueOf Lowest
+  unfolding HeldValue Reduced wordFor valueOf Lowest
   canonical-says a (Fraction p) q low =
       let n : ℕ = p .numerator in
       let d : ℕ = p .denominator in
@@ -149,7 +150,7 @@ module _ (f : Format) (h : known f ≡ true) where
         rw (m, or-false a) refl
 
     fraction-back : (a : Bool) → WrittenBack f (record { value = Fraction p; approximate = a })
-    unfolding Lowest HeldNumber Reduced SameNumber SameValue
+    unfolding Lowest HeldValue Reduced SameNumber SameValue
     fraction-back a =
         let x : Number = record { value = Fraction p; approximate = a } in
         let y : Number = record { value = Fraction lowest; approximate = a } in
@@ -172,8 +173,8 @@ module _ (f : Format) (h : known f ≡ true) where
       record { word = wordFor f (x .approximate) (x .value); written = g; number = x; read = read-written x c _ g; canonical = c; same = s }
 
   -- writing any number that is held
-  back : (a : Bool) (v : Value) → HeldNumber f v → WrittenBack f (record { value = v; approximate = a })
-  unfolding HeldNumber Reduced SameNumber SameValue wordFor
+  back : (a : Bool) (v : Value) → HeldValue f v → WrittenBack f (record { value = v; approximate = a })
+  unfolding HeldValue Reduced SameNumber SameValue wordFor
   back a (Fraction p) q = fraction-back p q a
   back a (Zero s) q = kept (record { value = Zero s; approximate = a }) (record { is-held = tt; reduced = tt }) (refl, inr refl)
   back a (Infinity s) q = kept (record { value = Infinity s; approximate = a }) (record { is-held = tt; reduced = tt }) (refl, inr refl)
@@ -203,8 +204,8 @@ module _ (f : Format) (h : known f ≡ true) where
             let z : _≡_ {A = ℕ} 0 1 = cc in
             absurd (omega arith)
 
-    of-value : (v : Value) → x .value ≡ v → HeldNumber f v
-    unfolding HeldNumber
+    of-value : (v : Value) → x .value ≡ v → HeldValue f v
+    unfolding HeldValue
     of-value (Fraction p) e =
         fractional f w h (read-says .clear) p (ap (λ (y : Number). y .value) (read-says .number) ∙ e) .parts
     of-value (Zero s) e = tt
@@ -212,25 +213,92 @@ module _ (f : Format) (h : known f ≡ true) where
     of-value NotANumber e = tt
 
     -- what a word says is held
-    pub read-held : HeldNumber f (x .value)
+    pub read-held : HeldValue f (x .value)
     read-held = of-value (x .value) refl
 
     pub written-read : WrittenBack f x
     written-read = back (x .approximate) (x .value) read-held
 
+    -- a fraction's word is made again of its parts
+    module _ (p : Parts) (e : x .value ≡ Fraction p) where
+      again : Fractional f w h (read-says .clear) p
+      again = fractional f w h (read-says .clear) p (ap (λ (y : Number). y .value) (read-says .number) ∙ e)
+
+      lowest-kept : Lowest (p .numerator) (p .denominator) → wordFor f (x .approximate) (Fraction p) ≡ w
+      lowest-kept low =
+          let a : numberOf f w .approximate ≡ x .approximate = ap (λ (y : Number). y .approximate) (read-says .number) in
+          fraction-word (x .approximate) p (again .parts) low ∙ rw (← a) (again .again)
+
+    -- what a canonical word says is written as that word
+    stored : (v : Value) → x .value ≡ v → Stores f w (x .approximate) v → wordFor f (x .approximate) v ≡ w
+    unfolding Stores wordFor
+    stored (Fraction p) e s = lowest-kept p e s
+    stored (Zero s) e g = sym g
+    stored (Infinity s) e g = sym g
+    stored NotANumber e g = sym g
+
     pub canonical-kept : CanonicalWord f w → writeNumber f x ≡ done w
     canonical-kept c =
-        let e : c .number ≡ x = done-inj (sym (read-written (c .number) (c .canonical) w (c .written)) ∙ r) in
-        subst (λ (y : Number). writeNumber f y ≡ done w) e (c .written)
+        let e : c .number ≡ x = done-inj (sym (c .read) ∙ r) in
+        held-written x read-held
+        ∙ ap done (stored (x .value) refl (subst (λ (y : Number). Stores f w (y .approximate) (y .value)) e (c .stores)))
 
-    pub lowest-canonical : (p : Parts) → x .value ≡ Fraction p → Lowest (p .numerator) (p .denominator) → CanonicalWord f w
-    unfolding HeldNumber Reduced
-    lowest-canonical p e low =
-        let g = fractional f w h (read-says .clear) p (ap (λ (y : Number). y .value) (read-says .number) ∙ e) in
-        let a : Bool = numberOf f w .approximate in
-        let y : Number = record { value = Fraction p; approximate = a } in
+  -- ---- what is written
+
+  -- every word that is written is canonical, and says the rounded number
+  module _ (s a : Bool) (n d : ℕ) (l : held (holds f) (pair n d) ≡ true) (low : Lowest n d) where
+    pair-stores : Stores f (pairWord f s a (pair n d)) a (valueOf s (pair n d))
+    unfolding Stores Lowest
+    pair-stores = go (ℕ-discrete d 0) (ℕ-discrete n 0)
+      where
+        proper : Proper n d
+        proper = lowest-proper n d low
+
+        go : Dec (d ≡ 0) → Dec (n ≡ 0) → Stores f (pairWord f s a (pair n d)) a (valueOf s (pair n d))
+        go (yes z) y =
+            subst (λ (v : Value). Stores f (pairWord f s a (pair n d)) a v) (value-infinity s n d z) (rw (z, proper .infinity-is z) refl)
+        go (no z) (yes y) =
+            subst (λ (v : Value). Stores f (pairWord f s a (pair n d)) a v) (value-zero s n d z y) (rw (y, proper .zero-is y) refl)
+        go (no z) (no y) = subst (λ (v : Value). Stores f (pairWord f s a (pair n d)) a v) (value-fraction s n d z y) low
+
+    pair-canonical : CanonicalWord f (pairWord f s a (pair n d))
+    unfolding Lowest
+    pair-canonical =
         record {
-          number = y;
-          canonical = record { is-held = g .parts; reduced = low };
-          written = held-written y (g .parts) ∙ ap done (fraction-word a p (g .parts) low ∙ g .again);
+          number = record { value = valueOf s (pair n d); approximate = a };
+          read = says-read h (pair-says f s a n d h l (lowest-proper n d low));
+          stores = pair-stores;
         }
+
+  word-canonical : (a : Bool) (v : Value) → isOverZero v ≡ false → CanonicalWord f (wordFor f a v)
+  unfolding wordFor Lowest Stores
+  word-canonical a (Fraction p) z =
+      let N : ℕ = p .numerator in
+      let D : ℕ = p .denominator in
+      pair-canonical (p .negative) _ _ _ (round-best (holds f) (format-limit f h) N D (over-some (Fraction p) p refl z) .isHeld)
+      (round-lowest (holds f) (format-limit f h) N D)
+  word-canonical a (Zero s) z = pair-canonical s a 0 1 (zero-held f h) (λ g i j. eq-one-of-dvd-one j)
+  word-canonical a (Infinity s) z = pair-canonical s a 1 0 (one-held (holds f)) (λ g i j. eq-one-of-dvd-one i)
+  word-canonical a NotANumber z =
+      record {
+        number = record { value = NotANumber; approximate = false };
+        read = says-read h (nan-says f h);
+        stores = refl;
+      }
+
+-- Every word that is written is canonical.
+pub written-canonical : (f : Format) (x : Number) (w : ℕ) → writeNumber f x ≡ done w → CanonicalWord f w
+written-canonical f x w e = go (known f) refl (isOverZero (x .value)) refl
+  where
+    go : (b : Bool) → known f ≡ b → (c : Bool) → isOverZero (x .value) ≡ c → CanonicalWord f w
+    go true h false z = subst (λ (v : ℕ). CanonicalWord f v) (done-inj (write-done f x h z ∙ e)) (word-canonical f h (x .approximate) (x .value) z)
+    go true h true z = absurd (no-stop (write-over-zero f x h z ∙ e))
+    go false h c z = absurd (no-stop (write-unknown f x h ∙ e))
+
+-- what is read is of a known format
+pub read-known : (f : Format) (w : ℕ) (x : Number) → readWord f w ≡ done x → known f ≡ true
+read-known f w x e = go (known f) refl
+  where
+    go : (b : Bool) → known f ≡ b → known f ≡ true
+    go true h = h
+    go false h = absurd (no-stop (read-unknown f w h ∙ e))

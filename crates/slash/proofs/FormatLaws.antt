@@ -1,22 +1,21 @@
 -- Laws of formats: what a known format says of its k, and that each is a limit. Assumes nothing.
-use mathlib.Core.Path.{_≡_, refl, sym, ap, ap₂, _∙_}
+use mathlib.Core.Path.{_≡_, refl, sym, ap₂, _∙_}
 use mathlib.Core.Logic.{_⊎_, inl, inr}
-use mathlib.Core.Bool.{Bool, true, false, _&&_}
+use mathlib.Core.Bool.{Bool, true, false, _&&_, _||_}
 use Prim.Native.Nat.{ℕ, zero, suc, _+_, _-_, _*_, _^_, _≤_, _<_}
 use native.Mathlib.Omega.{arith}
 use native.Mathlib.Decide.{ℕ-discrete}
-use lib.Dec.{ltb, leb, eqb}
+use lib.Dec.{leb, eqb}
 use lib.Pow.{pow-pos, pow-mono}
-use borrow.Author.Tests.{ltb-false, leb-true, eqb-true, lt-ltb, le-ltb, le-leb, lt-leb, eq-eqb, ne-eqb}
-use Rattle.convergents.specs.Choice.{if_then_else_}
+use borrow.Author.Tests.{leb-true, eqb-true, le-leb, eq-eqb, ne-eqb}
 use Rattle.convergents.specs.Pairs.{pair}
 use Rattle.convergents.specs.Rounding.{Limit, held}
 use Rattle.convergents.proofs.Optimal.{held-is}
 use Rattle.slash.specs.Answers.{Outcome, stop, done}
-use Rattle.slash.specs.Bits.{bitCount, leastPower}
+use Rattle.slash.specs.Bits.{bitCount}
 use Rattle.slash.specs.Formats.{isFixed, isFloating, known, ofKnown, makeFormat, slashBits, widthOf, holds, largestNumerator, largestDenominator}
 use Rattle.slash.specs.declared.format.Format.{Format}
-use Rattle.slash.proofs.BitLaws.{least-power, least-count, bit-count-lt, bit-count-le, bit-count-pos, bit-count-mono, bit-count-zero}
+use Rattle.slash.proofs.BitLaws.{least-power, least-count, bit-count-lt, bit-count-le, bit-count-pos, bit-count-mono}
 
 -- ---- answers
 
@@ -37,43 +36,46 @@ pub make-unknown : (kind k : ℕ) → known (record { kind = kind; k = k }) ≡ 
 unfolding makeFormat
 make-unknown kind k h = of-unknown _ _ h
 
--- ---- which formats are known, one law for each way through `is_known`
+-- ---- what a known format says of its k
 
-module _ (f : Format) where
-  pub known-small : f .k < 2 → false ≡ known f
+and-parts : (a b : Bool) → (a && b) ≡ true → (a ≡ true) × (b ≡ true)
+and-parts true b h = (refl, h)
+and-parts false b h = let z : _≡_ {A = ℕ} 0 1 = cc in absurd (omega arith)
+
+or-parts : (a b : Bool) → (a || b) ≡ true → (a ≡ true) ⊎ (b ≡ true)
+or-parts true b h = inl refl
+or-parts false b h = inr h
+
+module _ (f : Format) (h : known f ≡ true) where
+  bounds : (kind most : ℕ) → (eqb (f .kind) kind && leb 2 (f .k) && leb (f .k) most) ≡ true → (f .kind ≡ kind) × (2 ≤ f .k) × (f .k ≤ most)
+  bounds kind most e =
+      let a = and-parts (eqb (f .kind) kind && leb 2 (f .k)) (leb (f .k) most) e in
+      let b = and-parts (eqb (f .kind) kind) (leb 2 (f .k)) (a .0) in
+      (eqb-true _ _ (b .0), leb-true _ _ (b .1), leb-true _ _ (a .1))
+
+  -- fixed, or floating
+  kinds : ((f .kind ≡ 1) × (2 ≤ f .k) × (f .k ≤ 31)) ⊎ ((f .kind ≡ 2) × (2 ≤ f .k) × (f .k ≤ 32))
   unfolding known
-  known-small h = rw (lt-ltb _ _ h) refl
+  kinds = go (or-parts _ _ h)
+    where
+      go : ((isFixed f && leb 2 (f .k) && leb (f .k) 31) ≡ true) ⊎ ((isFloating f && leb 2 (f .k) && leb (f .k) 32) ≡ true)
+          → ((f .kind ≡ 1) × (2 ≤ f .k) × (f .k ≤ 31)) ⊎ ((f .kind ≡ 2) × (2 ≤ f .k) × (f .k ≤ 32))
+      go (inl e) = inl (bounds 1 31 e)
+      go (inr e) = inr (bounds 2 32 e)
 
-  pub known-fixed : 2 ≤ f .k → f .kind ≡ 1 → leb (f .k) 31 ≡ known f
-  unfolding known
-  known-fixed h e = rw (le-ltb _ _ h, eq-eqb _ _ e) refl
+  pub known-k : (2 ≤ f .k) × (f .k ≤ 32)
+  known-k = go kinds
+    where
+      go : ((f .kind ≡ 1) × (2 ≤ f .k) × (f .k ≤ 31)) ⊎ ((f .kind ≡ 2) × (2 ≤ f .k) × (f .k ≤ 32)) → (2 ≤ f .k) × (f .k ≤ 32)
+      go (inl w) = omega arith
+      go (inr w) = omega arith
 
-  pub known-floating : 2 ≤ f .k → (f .kind ≡ 1 → ⊥) → f .kind ≡ 2 → leb (f .k) 32 ≡ known f
-  unfolding known
-  known-floating h n e = rw (le-ltb _ _ h, ne-eqb _ _ n, eq-eqb _ _ e) refl
-
-  pub known-neither : 2 ≤ f .k → (f .kind ≡ 1 → ⊥) → (f .kind ≡ 2 → ⊥) → false ≡ known f
-  unfolding known
-  known-neither h n m = rw (le-ltb _ _ h, ne-eqb _ _ n, ne-eqb _ _ m) refl
-
-  bounds : (a b c : Bool) → ltb (f .k) 2 ≡ a
-      → (if a then false else if b then leb (f .k) 31 else if c then leb (f .k) 32 else false) ≡ true
-      → (2 ≤ f .k) × (f .k ≤ 32) × (b ≡ true → f .k ≤ 31)
-  bounds true b c e h = let z : _≡_ {A = ℕ} 0 1 = cc in omega arith
-  bounds false true c e h =
-      (ltb-false _ 2 e, omega (arith, leb-true (f .k) 31 h), λ t. leb-true (f .k) 31 h)
-  bounds false false true e h =
-      (ltb-false _ 2 e, leb-true (f .k) 32 h, λ t. let z : _≡_ {A = ℕ} 0 1 = cc in omega arith)
-  bounds false false false e h = let z : _≡_ {A = ℕ} 0 1 = cc in omega arith
-
-  module _ (h : known f ≡ true) where
-    pub known-k : (2 ≤ f .k) × (f .k ≤ 32)
-    unfolding known
-    known-k = let b = bounds (ltb (f .k) 2) (isFixed f) (isFloating f) refl h in (b .0, b .1)
-
-    pub fixed-k : f .kind ≡ 1 → f .k ≤ 31
-    unfolding known
-    fixed-k e = let b = bounds (ltb (f .k) 2) (isFixed f) (isFloating f) refl h in b .2 (eq-eqb _ _ e)
+  pub fixed-k : f .kind ≡ 1 → f .k ≤ 31
+  fixed-k e = go kinds
+    where
+      go : ((f .kind ≡ 1) × (2 ≤ f .k) × (f .k ≤ 31)) ⊎ ((f .kind ≡ 2) × (2 ≤ f .k) × (f .k ≤ 32)) → f .k ≤ 31
+      go (inl w) = omega arith
+      go (inr w) = omega arith
 
 -- ---- widths and parts
 
@@ -123,10 +125,6 @@ module _ (f : Format) where
       go (no n) = omega (arith, width-floating n _ refl, known-k f h, slash-bits-le (f .k) (known-k f h .1))
 
 -- ---- what a format holds
-
-and-parts : (a b : Bool) → (a && b) ≡ true → (a ≡ true) × (b ≡ true)
-and-parts true b h = (refl, h)
-and-parts false b h = let z : _≡_ {A = ℕ} 0 1 = cc in absurd (omega arith)
 
 module _ (f : Format) (r s : ℕ) where
   -- the answers of `is_held`

@@ -1,19 +1,19 @@
 -- A word is made of its fields: what was read as a fraction is written back as it was. Assumes nothing.
 use mathlib.Core.Path.{_≡_, refl, sym, ap, _∙_, subst}
 use mathlib.Core.Logic.{_⊎_, inl, inr}
-use mathlib.Core.Bool.{Bool, true, false, not, _&&_}
+use mathlib.Core.Bool.{Bool, true}
 use Prim.Native.Nat.{ℕ, zero, suc, _+_, _-_, _*_, _/_, _%_, _^_, _≤_, _<_}
 use native.Mathlib.Omega.{arith}
 use native.Mathlib.Decide.{ℕ-discrete, decLe}
 use native.Mathlib.Nat.{div-one, div-add-mod', mod-lt, mod-eq-of-lt, div-lt-iff-lt-mul}
 use lib.Dec.{leb, eqb}
-use lib.Pow.{pow-pos, pow-mono, pow-add, shr-shr}
-use borrow.Author.Tests.{eqb-true, eqb-false, leb-true, leb-false, le-leb, lt-leb, eq-eqb, ne-eqb}
+use lib.Pow.{pow-pos, pow-add, shr-shr}
+use borrow.Author.Tests.{le-leb, lt-leb, ne-eqb}
 use Rattle.convergents.specs.Choice.{if_then_else_}
 use Rattle.convergents.specs.Pairs.{pair}
 use Rattle.slash.specs.Bits.{bitCount, bits, bit, bitOf, fields}
-use Rattle.slash.specs.Formats.{isFixed, known, slashBits, widthOf, holds}
-use Rattle.slash.specs.Words.{fixedValue, fixedNumber, slashPosition, slashUndefined, floatingFraction, floatingSpecial, floatingNumber, numberOf, isAbove, wordStop, fixedWord, floatingWord, floatingPair, pairWord}
+use Rattle.slash.specs.Formats.{known, slashBits, widthOf}
+use Rattle.slash.specs.Words.{fixedValue, fixedNumber, slashPosition, floatingFraction, floatingSpecial, floatingNumber, numberOf, isAbove, wordStop, fixedWord, floatingWord, floatingPair, pairWord}
 use Rattle.slash.specs.Canonical.{HeldParts}
 use Rattle.slash.specs.declared.format.Format.{Format}
 use Rattle.slash.specs.declared.number.Parts.{Parts}
@@ -22,7 +22,7 @@ use Rattle.slash.specs.declared.number.Value.the-variants.{Fraction, Zer
 use Rattle.slash.specs.declared.number.Number.{Number}
 use Rattle.slash.proofs.BitLaws.{pow-next, bits-lt, bit-count-is, bit-count-le}
 use Rattle.slash.proofs.FormatLaws.{known-k, width-fixed, width-floating, holds-both, holds-floating}
-use Rattle.slash.proofs.WordLaws.{fixed-zero, fixed-nan-zero, fixed-infinity, fixed-nan-infinity, fixed-fraction, floating-zero, floating-fraction, special-infinity, special-nan, number-fixed, number-floating, stop-above, stop-undefined}
+use Rattle.slash.proofs.WordLaws.{fixed-zero, fixed-nan-zero, fixed-infinity, fixed-nan-infinity, fixed-fraction, floating-zero, floating-fraction, special-infinity, special-nan, number-fixed, number-floating, stop-above}
 use Rattle.slash.proofs.RoundTrip.{word-fixed, word-floating}
 
 -- a word of no more bits than its fields is its fields

@@ -1,29 +1,25 @@
 -- Reading what was written. Assumes nothing.
 use mathlib.Core.Path.{_≡_, refl, sym, ap, _∙_, subst}
-use mathlib.Core.Logic.{_⊎_, inl, inr}
-use mathlib.Core.Bool.{Bool, true, false, not, _&&_}
-use Prim.Native.Nat.{ℕ, zero, suc, _+_, _-_, _*_, _/_, _%_, _^_, _≤_, _<_}
+use mathlib.Core.Bool.{Bool, true, false}
+use Prim.Native.Nat.{ℕ, _+_, _-_, _*_, _/_, _%_, _^_, _≤_, _<_}
 use native.Mathlib.Omega.{arith}
 use native.Mathlib.Decide.{ℕ-discrete}
 use native.Mathlib.Nat.{zero-mul}
 use lib.Arith.{digits-div, digits-mod}
-use lib.Dec.{leb, eqb}
 use lib.Pow.{pow-pos, pow-mono}
-use borrow.Author.Tests.{eqb-true, le-leb, lt-leb, eq-eqb, ne-eqb}
-use Rattle.convergents.specs.Choice.{if_then_else_}
+use borrow.Author.Tests.{le-leb, lt-leb, eq-eqb, ne-eqb}
 use Rattle.convergents.specs.Pairs.{Pair, pair}
 use Rattle.convergents.specs.Rounding.{held}
-use Rattle.convergents.proofs.Optimal.{held-is}
-use Rattle.slash.specs.Answers.{Outcome, stop, done}
+use Rattle.slash.specs.Answers.{Outcome, done}
 use Rattle.slash.specs.Bits.{bitCount, bits, bit, bitOf, fields}
-use Rattle.slash.specs.Formats.{isFixed, known, slashBits, widthOf, holds}
+use Rattle.slash.specs.Formats.{known, slashBits, widthOf, holds}
 use Rattle.slash.specs.Words.{fixedValue, fixedNumber, slashPosition, slashUndefined, floatingFraction, floatingSpecial, floatingNumber, numberOf, isAbove, wordStop, readWord, fixedWord, floatingWord, floatingPair, floatingNan, pairWord, nanWord, valueOf, pairOf}
 use Rattle.slash.specs.declared.format.Format.{Format}
 use Rattle.slash.specs.declared.number.Value.{Value}
 use Rattle.slash.specs.declared.number.Value.the-variants.{Fraction, Zero, Infinity, NotANumber}
 use Rattle.slash.specs.declared.number.Number.{Number}
 use Rattle.slash.proofs.BitLaws.{bit-lt, bit-back, bit-count-pos, bit-count-lt, bit-count-top, pow-next, fields-z, fields-y, fields-x, fields-s, fields-lt}
-use Rattle.slash.proofs.FormatLaws.{known-k, fixed-k, fixed-parts, floating-parts, slash-bits-enough, slash-bits-pos, width-fixed, width-floating}
+use Rattle.slash.proofs.FormatLaws.{known-k, fixed-parts, floating-parts, slash-bits-enough, slash-bits-pos, width-fixed, width-floating}
 use Rattle.slash.proofs.WordLaws.{fixed-zero, fixed-nan-zero, fixed-infinity, fixed-fraction, floating-zero, floating-fraction, special-infinity, special-nan, undefined-below, pair-field, pair-slash, stop-fixed, stop-none, number-fixed, number-floating, read-done}
 
 -- ---- the value of a pair
@@ -34,11 +30,11 @@ pub record Proper (n d : ℕ) : Type 0 where
   pub infinity-is : d ≡ 0 → n ≡ 1
 
 module _ (s : Bool) (n d : ℕ) where
-  value-infinity : d ≡ 0 → Infinity s ≡ valueOf s (pair n d)
+  pub value-infinity : d ≡ 0 → Infinity s ≡ valueOf s (pair n d)
   unfolding valueOf
   value-infinity e = rw (eq-eqb _ _ e) refl
 
-  value-zero : (d ≡ 0 → ⊥) → n ≡ 0 → Zero s ≡ valueOf s (pair n d)
+  pub value-zero : (d ≡ 0 → ⊥) → n ≡ 0 → Zero s ≡ valueOf s (pair n d)
   unfolding valueOf
   value-zero h e = rw (ne-eqb _ _ h, eq-eqb _ _ e) refl
 

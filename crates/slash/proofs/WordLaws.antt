@@ -1,23 +1,22 @@
 -- Laws of reading and writing words, one for each way through the code. Assumes nothing.
 use mathlib.Core.Path.{_≡_, refl, sym, ap, _∙_}
-use mathlib.Core.Bool.{Bool, true, false, not, _&&_}
-use Prim.Native.Nat.{ℕ, suc, _+_, _-_, _*_, _/_, _%_, _^_, _≤_, _<_}
+use mathlib.Core.Bool.{Bool, true, false, _&&_}
+use Prim.Native.Nat.{ℕ, _+_, _-_, _*_, _/_, _%_, _^_, _≤_, _<_}
 use native.Mathlib.Omega.{arith}
 use native.Mathlib.Nat.{mod-lt, le-div-iff-mul-le, div-lt-iff-lt-mul}
-use lib.Dec.{leb, eqb}
+use lib.Dec.{leb}
 use lib.Arith.{digits-lt}
 use lib.Pow.{pow-pos, pow-mono, pow-add}
 use borrow.Author.Tests.{le-leb, lt-leb, leb-true, leb-false, eq-eqb, ne-eqb}
-use Rattle.convergents.specs.Choice.{if_then_else_}
 use Rattle.slash.specs.Answers.{Outcome, stop, done}
-use Rattle.slash.specs.Bits.{bitCount, bits, bit, bitOf, fields}
-use Rattle.slash.specs.Formats.{isFixed, known, slashBits, widthOf}
-use Rattle.slash.specs.Words.{fixedValue, fixedNumber, slashPosition, slashUndefined, floatingFraction, floatingSpecial, floatingNumber, numberOf, isAbove, wordStop, readWord, fixedWord, floatingWord, floatingPair, floatingNan}
+use Rattle.slash.specs.Bits.{bitCount, bits, bit, fields}
+use Rattle.slash.specs.Formats.{known, slashBits, widthOf}
+use Rattle.slash.specs.Words.{fixedValue, fixedNumber, slashPosition, slashUndefined, floatingFraction, floatingSpecial, floatingNumber, numberOf, isAbove, wordStop, readWord, fixedWord, floatingWord, floatingPair}
 use Rattle.slash.specs.declared.format.Format.{Format}
 use Rattle.slash.specs.declared.number.Value.{Value}
 use Rattle.slash.specs.declared.number.Value.the-variants.{Fraction, Zero, Infinity, NotANumber}
 use Rattle.slash.specs.declared.number.Number.{Number}
-use Rattle.slash.proofs.BitLaws.{pow-next, bit-lt, bits-lt, bit-count-lt, bit-count-pos, bit-count-top}
+use Rattle.slash.proofs.BitLaws.{pow-next, bits-lt, bit-count-lt, bit-count-pos, bit-count-top}
 use Rattle.slash.proofs.FormatLaws.{slash-bits-enough}
 
 -- ---- fixed words
@@ -57,10 +56,6 @@ fixed-word k s t n a b d r te be e = e ∙ rw (te, be) refl
 pub slash-is : (k w l r : ℕ) → l ≡ slashBits k → r ≡ bits (k - 1) l w → r ≡ slashPosition k w
 unfolding slashPosition
 slash-is k w l r le e = e ∙ rw le refl
-
-pub slash-lt : (k w : ℕ) → slashPosition k w < 2 ^ slashBits k
-unfolding slashPosition
-slash-lt k w = bits-lt (k - 1) (slashBits k) w
 
 module _ (k w e : ℕ) (h : e ≡ slashPosition k w) where
   pub undefined-is : (l p : ℕ) → l ≡ slashBits k → p ≡ 2 ^ l → (leb (k - 1) e && leb e (p - 2)) ≡ slashUndefined k w

@@ -1,20 +1,20 @@
 -- Laws of writing, one for each way through the code, and that what is written is the best pair. Assumes nothing.
 use mathlib.Core.Path.{_≡_, refl, sym, ap, _∙_, subst}
 use mathlib.Core.Bool.{Bool, true, false, _||_}
-use Prim.Native.Nat.{ℕ, zero, suc, _≤_, _∣_}
+use Prim.Native.Nat.{ℕ, _≤_, _∣_}
 use native.Mathlib.Omega.{arith}
 use native.Mathlib.Nat.{dvd-refl, dvd-zero, eq-one-of-dvd-one}
 use lib.Dec.{eqb}
 use borrow.Author.Tests.{eqb-false}
-use Rattle.convergents.specs.Pairs.{Pair, pair, differs}
-use Rattle.convergents.specs.Rounding.{held, round}
+use Rattle.convergents.specs.Pairs.{Pair, pair}
+use Rattle.convergents.specs.Rounding.{held}
 use Rattle.convergents.specs.Best.{Best}
-use Rattle.convergents.proofs.Optimal.{held-is, one-held}
+use Rattle.convergents.proofs.Optimal.{held-is}
 use Rattle.convergents.proofs.Theorem.{round-best, round-lowest, round-held}
 use Rattle.slash.specs.Answers.{stop, done}
 use Rattle.slash.specs.Formats.{known, holds}
 use Rattle.slash.specs.Rounding.{rounded}
-use Rattle.slash.specs.Words.{numberOf, pairWord, nanWord, wordFor, isOverZero, writeNumber, valueOf, pairOf, BestFor, BestWord}
+use Rattle.slash.specs.Words.{numberOf, pairWord, nanWord, wordFor, isOverZero, writeNumber, pairOf, BestFor, BestWord}
 use Rattle.slash.specs.declared.format.Format.{Format}
 use Rattle.slash.specs.declared.number.Parts.{Parts}
 use Rattle.slash.specs.declared.number.Value.{Value}

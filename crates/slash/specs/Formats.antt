@@ -1,7 +1,7 @@
 -- Formats: which there are, how wide their words are, and which pairs they hold.
 use Prim.Native.Nat.{ℕ, _+_, _-_, _*_, _^_}
-use mathlib.Core.Bool.{Bool, false, _&&_}
-use lib.Dec.{ltb, leb, eqb}
+use mathlib.Core.Bool.{Bool, _&&_, _||_}
+use lib.Dec.{leb, eqb}
 use Rattle.convergents.specs.Choice.{if_then_else_}
 use Rattle.slash.specs.Answers.{Outcome, stop, done}
 use Rattle.slash.specs.Bits.{leastPower, bitCount}
@@ -14,13 +14,9 @@ isFixed f = eqb (f .kind) 1
 abbrev pub isFloating : Format → Bool
 isFloating f = eqb (f .kind) 2
 
--- k runs from 2 to 31 in fixed formats, and to 32 in floating ones.
+-- k runs from 2 to 31 in fixed formats, and from 2 to 32 in floating ones.
 unfoldable pub known : Format → Bool
-known f =
-    if ltb (f .k) 2 then false else
-    if isFixed f then leb (f .k) 31 else
-    if isFloating f then leb (f .k) 32 else
-    false
+known f = (isFixed f && leb 2 (f .k) && leb (f .k) 31) || (isFloating f && leb 2 (f .k) && leb (f .k) 32)
 
 -- Stop 1 for an unknown kind or k, before anything else.
 unfoldable pub ofKnown : {A : Type 0} → Format → A → Outcome A

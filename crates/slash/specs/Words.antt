@@ -1,6 +1,6 @@
 -- Words, each way.
 use Prim.Native.Nat.{ℕ, _+_, _-_, _*_, _/_, _%_, _^_}
-use mathlib.Core.Bool.{Bool, true, false, not, _&&_, _||_}
+use mathlib.Core.Bool.{Bool, false, not, _&&_, _||_}
 use lib.Dec.{leb, eqb}
 use Rattle.convergents.specs.Choice.{if_then_else_}
 use Rattle.convergents.specs.Pairs.{Pair, pair, differs}

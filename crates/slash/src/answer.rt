@@ -29,6 +29,9 @@ impl Stop {
     // Denominator 0 given to rounding.
     pub const DENOMINATOR: u64 = 6;
 
+    // A quotient list shorter than the quotients.
+    pub const LIST: u64 = 7;
+
     // A stop that names no index and no line.
     pub fn plain(number: u64) -> Stop
         ensures { λ r. ⌜ r ≡ record { number = number; place = 0 } ⌝ }

@@ -77,19 +77,17 @@ impl Format {
         }
     }
 
+    // Whether the kind is one of the two, and k within its bounds.
     pub fn is_known(self) -> bool
         ensures { λ r. ⌜ r ≡ known self ⌝ }
     {
-        if self.k < Format::LEAST_K {
-            return false;
-        }
-        if self.kind == Format::FIXED {
-            return self.k <= Format::MOST_FIXED_K;
-        }
-        if self.kind == Format::FLOATING {
-            return self.k <= Format::MOST_FLOATING_K;
-        }
-        false
+        let fixed = (self.kind == Format::FIXED)
+            & (Format::LEAST_K <= self.k)
+            & (self.k <= Format::MOST_FIXED_K);
+        let floating = (self.kind == Format::FLOATING)
+            & (Format::LEAST_K <= self.k)
+            & (self.k <= Format::MOST_FLOATING_K);
+        fixed | floating
     }
 
     pub(crate) fn word_bits(self) -> u64

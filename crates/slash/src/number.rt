@@ -1,6 +1,7 @@
 // What a word says: a signed fraction, zero, infinity or not-a-number, and the mark beside it.
 
-// The parts of a fraction, as they are stored: neither is 0, and they need not be in lowest terms.
+// The parts of a fraction. Of a word they are as stored: neither is 0, and they need not be in
+// lowest terms. A number to be written may have any parts.
 pub struct Parts {
     pub negative: bool,
     pub numerator: u64,

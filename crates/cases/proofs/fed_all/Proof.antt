@@ -1,11 +1,9 @@
+-- `cases::fed_all` meets its contract. Assumes nothing.
 use Prim.Native.Nat.{_≤_, _-_}
 use lib.ListN.{length}
 use borrow.Author.Needs.{needs}
 use Rattle.cases.proofs.fed_all.Statement.{statement}
 use Rattle.cases.proofs.fed_all.Tie as tie
-use Rattle.cases.proofs.fed_all.Reads as reads
-use Rattle.cases.proofs.fed_all.Lts as lts
-use Rattle.cases.proofs.fed.Reads as fed-reads
 
 abbrev Inv-loop : tie.InvT-loop
 Inv-loop bytes next₀ i₀ next i = i ≤ length bytes
@@ -13,31 +11,24 @@ Inv-loop bytes next₀ i₀ next i = i ≤ length bytes
 abbrev μ-loop : tie.MeasureT-loop
 μ-loop bytes next₀ i₀ next i = length bytes - i
 
--- src/main.rt:69:5
 loop-holds : tie.Need-loop-holds Inv-loop μ-loop
 loop-holds c = search needs
 
--- src/main.rt:70:26
 shared-slice-read-fed : tie.Need-shared-slice-read-fed Inv-loop μ-loop
 shared-slice-read-fed c = search needs
 
--- src/main.rt:70:9
 fed-requires : tie.Need-fed-requires Inv-loop μ-loop
 fed-requires c κs = search needs
 
--- src/main.rt:71:9
 add-i : tie.Need-add-i Inv-loop μ-loop
 add-i c = search needs
 
--- src/main.rt:69:5
 loop-less : tie.Need-loop-less Inv-loop μ-loop
 loop-less c = search needs
 
--- src/main.rt:69:5
 loop-again : tie.Need-loop-again Inv-loop μ-loop
 loop-again c = search needs
 
--- src/main.rt:66:1
 returns : tie.Need-returns Inv-loop μ-loop
 returns c = search needs
 

@@ -1,3 +1,4 @@
+-- `arithmetic::conversion::convert` meets its contract. Assumes nothing.
 use Rattle.arithmetic.proofs.ConversionLaws.{convert-source, convert-target, convert-stop, convert-done}
 use Rattle.slash.proofs.AnswerLaws.{plain-stop, reading-stop, reading-done}
 use borrow.Author.Tests.{not-true, not-false}
@@ -5,35 +6,23 @@ use mathlib.Core.Path.{sym, _∙_}
 use borrow.Author.Needs.{needs}
 use Rattle.arithmetic.proofs.conversion.convert.Statement.{statement}
 use Rattle.arithmetic.proofs.conversion.convert.Tie as tie
-use Rattle.arithmetic.proofs.conversion.convert.Reads as reads
-use Rattle.arithmetic.proofs.conversion.convert.Lts as lts
-use Rattle.slash.proofs.answer.Stop.plain.Reads as plain-reads
-use Rattle.slash.proofs.format.Format.is_known.Reads as is-known-reads
-use Rattle.slash.proofs.read.Reads as read-reads
-use Rattle.slash.proofs.write.Reads as write-reads
 
--- src/conversion.rt:16:9
 is-known-requires : tie.Need-is-known-requires
 is-known-requires c κs = search needs
 
--- src/conversion.rt:17:32
 plain-requires : tie.Need-plain-requires
 plain-requires c κs = search needs
 
--- src/conversion.rt:17:9
 returns : tie.Need-returns
 returns c =
     (plain-stop _ 1 (c .plain .ensures) (convert-source _ _ _ (sym (c .before .before .is-known .ensures) ∙ not-true _ (c .before .if1 .taken))), tt)
 
--- src/conversion.rt:19:9
 is-known-requires-2 : tie.Need-is-known-requires-2
 is-known-requires-2 c κs = search needs
 
--- src/conversion.rt:20:32
 plain-requires-2 : tie.Need-plain-requires-2
 plain-requires-2 c κs = search needs
 
--- src/conversion.rt:20:9
 returns-2 : tie.Need-returns-2
 returns-2 c = (
   plain-stop _ 1 (c .plain2 .ensures)
@@ -42,23 +31,18 @@ returns-2 c = (
   tt,
 )
 
--- src/conversion.rt:22:11
 read-requires : tie.Need-read-requires
 read-requires c κs = search needs
 
--- src/conversion.rt:23:26
 enum-known-s : tie.Need-enum-known-s
 enum-known-s c = search needs
 
--- src/conversion.rt:24:23
 enum-known-x : tie.Need-enum-known-x
 enum-known-x c = search needs
 
--- src/conversion.rt:24:29
 write-requires : tie.Need-write-requires
 write-requires c κs = search needs
 
--- src/conversion.rt:12:1
 returns-3 : tie.Need-returns-3
 returns-3 c = (
   convert-stop _ _ _ (sym (c .before .before .before .before .before .before .before .is-known .ensures) ∙ not-false _ (c .before .before .before .before .before .before .if1 .left))
@@ -67,7 +51,6 @@ returns-3 c = (
   tt,
 )
 
--- src/conversion.rt:12:1
 returns-4 : tie.Need-returns-4
 returns-4 c =
     convert-done _ _ _ (sym (c .before .before .before .before .before .before .before .before .is-known .ensures) ∙ not-false _ (c .before .before .before .before .before .before .before .if1 .left))

@@ -1,44 +1,35 @@
+-- `arithmetic::operand::as_operand` meets its contract. Assumes nothing.
 use Rattle.arithmetic.proofs.OperandLaws.{at-one}
 use Rattle.arithmetic.specs.Operands.{operandOf}
 use mathlib.Core.Path.{refl}
 use borrow.Author.Needs.{needs}
 use Rattle.arithmetic.proofs.operand.as_operand.Statement.{statement}
 use Rattle.arithmetic.proofs.operand.as_operand.Tie as tie
-use Rattle.arithmetic.proofs.operand.as_operand.Reads as reads
-use Rattle.arithmetic.proofs.operand.as_operand.Lts as lts
 
--- src/operand.rt:18:25
 enum-known-v : tie.Need-enum-known-v
 enum-known-v c = search needs
 
--- src/operand.rt:19:21
 enum-known-v-2 : tie.Need-enum-known-v-2
 enum-known-v-2 c = search needs
 
--- src/operand.rt:24:25
 enum-known-v-3 : tie.Need-enum-known-v-3
 enum-known-v-3 c = search needs
 
--- src/operand.rt:25:30
 enum-told : tie.Need-enum-told
 enum-told c = search needs
 
--- src/operand.rt:14:1
 returns : tie.Need-returns
 unfolding operandOf
 returns c = at-one operandOf (c .before .v .given .1) refl
 
--- src/operand.rt:14:1
 returns-2 : tie.Need-returns-2
 unfolding operandOf
 returns-2 c = at-one operandOf (c .before .v2 .given .1) refl
 
--- src/operand.rt:14:1
 returns-3 : tie.Need-returns-3
 unfolding operandOf
 returns-3 c = at-one operandOf (c .before .v3 .given .1) refl
 
--- src/operand.rt:14:1
 returns-4 : tie.Need-returns-4
 unfolding operandOf
 returns-4 c = at-one operandOf (c .enum-told .given .1) refl

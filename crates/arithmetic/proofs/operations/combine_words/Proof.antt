@@ -1,54 +1,42 @@
+-- `arithmetic::operations::combine_words` meets its contract. Assumes nothing.
 use Rattle.arithmetic.proofs.BinaryLaws.{combine-left, combine-right, combine-both}
 use Rattle.arithmetic.proofs.OperandLaws.{read-small}
 use Rattle.slash.proofs.AnswerLaws.{reading-stop, reading-done}
-use mathlib.Core.Path.{sym, _∙_}
+use mathlib.Core.Path.{sym}
 use borrow.Author.Needs.{needs}
 use Rattle.arithmetic.proofs.operations.combine_words.Statement.{statement}
 use Rattle.arithmetic.proofs.operations.combine_words.Tie as tie
-use Rattle.arithmetic.proofs.operations.combine_words.Reads as reads
-use Rattle.arithmetic.proofs.operations.combine_words.Lts as lts
-use Rattle.arithmetic.proofs.operations.combine.Reads as combine-reads
-use Rattle.slash.proofs.read.Reads as read-reads
 
--- src/operations.rt:213:11
 read-requires : tie.Need-read-requires
 read-requires c κs = search needs
 
--- src/operations.rt:214:26
 enum-known-s : tie.Need-enum-known-s
 enum-known-s c = search needs
 
--- src/operations.rt:215:23
 enum-known-x : tie.Need-enum-known-x
 enum-known-x c = search needs
 
--- src/operations.rt:215:35
 read-requires-2 : tie.Need-read-requires-2
 read-requires-2 c κs = search needs
 
--- src/operations.rt:216:30
 enum-known-s-2 : tie.Need-enum-known-s-2
 enum-known-s-2 c = search needs
 
--- src/operations.rt:217:27
 enum-known-y : tie.Need-enum-known-y
 enum-known-y c = search needs
 
--- src/operations.rt:217:33
 combine-requires : tie.Need-combine-requires
 combine-requires c κs =
     let start = c .before .before .before .before .before .before .before .before in
     let h = start .pre in
     let x = reading-done (c .before .before .before .before .before .before .before .read .ensures) (c .before .before .before .before .before .x .given .1) in
     let y = reading-done (c .before .before .before .read2 .ensures) (c .before .y .given .1) in
-    (h, read-small _ _ _ h (sym x), read-small _ _ _ h (sym y))
+    (h, read-small _ _ _ (sym x), read-small _ _ _ (sym y))
 
--- src/operations.rt:208:1
 returns : tie.Need-returns
 returns c =
     (combine-left _ _ _ _ (c .before .before .before .before .pre) (reading-stop (c .before .before .before .read .ensures) (c .before .s .given .1)), tt)
 
--- src/operations.rt:208:1
 returns-2 : tie.Need-returns-2
 returns-2 c = (
   combine-right _ _ _ _ (c .before .before .before .before .before .before .before .before .pre) _
@@ -57,7 +45,6 @@ returns-2 c = (
   tt,
 )
 
--- src/operations.rt:208:1
 returns-3 : tie.Need-returns-3
 returns-3 c =
     combine-both _ _ _ _ (c .before .before .before .before .before .before .before .before .before .pre) _

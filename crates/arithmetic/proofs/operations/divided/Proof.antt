@@ -1,31 +1,24 @@
-use Rattle.arithmetic.proofs.OperandLaws.{Products, products}
+-- `arithmetic::operations::divided` meets its contract. Assumes nothing.
 use Rattle.arithmetic.proofs.BinaryLaws.{divided-none, divided-infinity, divided-some}
-use Rattle.arithmetic.specs.Operands.{Small}
+use Rattle.arithmetic.proofs.OperandLaws.{products, Products}
 use native.Mathlib.Omega.{arith}
 use Rattle.arithmetic.proofs.operations.divided.Statement.{statement}
 use Rattle.arithmetic.proofs.operations.divided.Tie as tie
-use Rattle.arithmetic.proofs.operations.divided.Reads as reads
-use Rattle.arithmetic.proofs.operations.divided.Lts as lts
 
--- src/operations.rt:135:13
 returns : tie.Need-returns
-returns c = divided-none _ _ (c .before .before .if1 .taken) (c .if2 .taken)
+returns c = divided-none _ _ _ (c .before .before .if1 .taken) (c .if2 .taken)
 
--- src/operations.rt:137:9
 returns-2 : tie.Need-returns-2
-returns-2 c = divided-infinity _ _ (c .before .before .if1 .taken) (c .if2 .left)
+returns-2 c = divided-infinity _ _ _ (c .before .before .if1 .taken) (c .if2 .left)
 
--- src/operations.rt:141:20
 mul-t6 : tie.Need-mul-t6
-mul-t6 c = let pre = c .before .before .before .before .before .before .pre in omega (arith, products (pre .0) (pre .1))
+mul-t6 c = let pre = c .before .before .before .before .pre in omega (arith, products (pre .0) (pre .1))
 
--- src/operations.rt:142:22
 mul-t7 : tie.Need-mul-t7
-mul-t7 c = let pre = c .before .before .before .before .before .before .before .before .pre in omega (arith, products (pre .0) (pre .1))
+mul-t7 c = let pre = c .before .before .before .before .before .before .pre in omega (arith, products (pre .0) (pre .1))
 
--- src/operations.rt:128:1
 returns-3 : tie.Need-returns-3
-returns-3 c = divided-some _ _ (c .before .before .before .before .if1 .left)
+returns-3 c = divided-some _ _ _ (c .before .before .before .before .if1 .left)
 
 pub divided-spec : {M : Type 1} → statement M
 divided-spec = tie.close (tie.spec returns returns-2 mul-t6 mul-t7 returns-3)

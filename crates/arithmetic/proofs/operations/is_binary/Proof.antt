@@ -1,11 +1,9 @@
+-- `arithmetic::operations::is_binary` meets its contract. Assumes nothing.
 use Rattle.arithmetic.specs.Binary.{isBinary}
 use mathlib.Core.Path.{refl}
 use Rattle.arithmetic.proofs.operations.is_binary.Statement.{statement}
 use Rattle.arithmetic.proofs.operations.is_binary.Tie as tie
-use Rattle.arithmetic.proofs.operations.is_binary.Reads as reads
-use Rattle.arithmetic.proofs.operations.is_binary.Lts as lts
 
--- src/operations.rt:182:1
 returns : tie.Need-returns
 unfolding isBinary
 returns c = refl

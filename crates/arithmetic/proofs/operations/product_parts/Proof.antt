@@ -1,21 +1,17 @@
-use Rattle.arithmetic.proofs.OperandLaws.{Products, products}
+-- `arithmetic::operations::product_parts` meets its contract. Assumes nothing.
+use Rattle.arithmetic.proofs.OperandLaws.{products, Products}
 use Rattle.arithmetic.specs.Binary.{productParts}
 use mathlib.Core.Path.{refl}
 use native.Mathlib.Omega.{arith}
 use Rattle.arithmetic.proofs.operations.product_parts.Statement.{statement}
 use Rattle.arithmetic.proofs.operations.product_parts.Tie as tie
-use Rattle.arithmetic.proofs.operations.product_parts.Reads as reads
-use Rattle.arithmetic.proofs.operations.product_parts.Lts as lts
 
--- src/operations.rt:111:20
 mul-t4 : tie.Need-mul-t4
-mul-t4 c = let pre = c .before .before .before .before .pre in omega (arith, products (pre .0) (pre .1))
+mul-t4 c = let pre = c .before .before .pre in omega (arith, products (pre .0) (pre .1))
 
--- src/operations.rt:112:22
 mul-t5 : tie.Need-mul-t5
-mul-t5 c = let pre = c .before .before .before .before .before .before .pre in omega (arith, products (pre .0) (pre .1))
+mul-t5 c = let pre = c .before .before .before .before .pre in omega (arith, products (pre .0) (pre .1))
 
--- src/operations.rt:105:1
 returns : tie.Need-returns
 unfolding productParts
 returns c = refl

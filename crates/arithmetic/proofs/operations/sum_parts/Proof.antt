@@ -1,38 +1,29 @@
+-- `arithmetic::operations::sum_parts` meets its contract. Assumes nothing.
 use Rattle.arithmetic.proofs.BinaryLaws.{parts-sum}
-use Rattle.arithmetic.proofs.OperandLaws.{Products, products}
+use Rattle.arithmetic.proofs.OperandLaws.{products, Products}
 use native.Mathlib.Omega.{arith}
 use borrow.Author.Needs.{needs}
 use Rattle.arithmetic.proofs.operations.sum_parts.Statement.{statement}
 use Rattle.arithmetic.proofs.operations.sum_parts.Tie as tie
-use Rattle.arithmetic.proofs.operations.sum_parts.Reads as reads
-use Rattle.arithmetic.proofs.operations.sum_parts.Lts as lts
-use Rattle.arithmetic.proofs.operations.sum_sign.Reads as sum-sign-reads
-use Rattle.arithmetic.proofs.operations.sum_size.Reads as sum-size-reads
 
--- src/operations.rt:45:14
 mul-ad : tie.Need-mul-ad
 mul-ad c = let pre = c .before .before .pre in omega (arith, products (pre .0) (pre .1))
 
--- src/operations.rt:46:14
 mul-bc : tie.Need-mul-bc
 mul-bc c = let pre = c .before .before .before .before .pre in omega (arith, products (pre .0) (pre .1))
 
--- src/operations.rt:47:9
 sum-size-requires : tie.Need-sum-size-requires
 sum-size-requires c κs =
     let pre = c .before .before .before .before .before .before .pre in
     let all = products (pre .0) (pre .1) in
     (all .ad, all .bc)
 
--- src/operations.rt:49:19
 sum-sign-requires : tie.Need-sum-sign-requires
 sum-sign-requires c κs = search needs
 
--- src/operations.rt:51:22
 mul-t7 : tie.Need-mul-t7
 mul-t7 c = let pre = c .before .before .before .before .before .before .before .before .before .before .pre in omega (arith, products (pre .0) (pre .1))
 
--- src/operations.rt:41:1
 returns : tie.Need-returns
 returns c = parts-sum _ _ _ _ (c .before .before .before .sum-size .ensures) (c .before .before .sum-sign .ensures)
 

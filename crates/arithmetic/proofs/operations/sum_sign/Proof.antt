@@ -1,18 +1,14 @@
+-- `arithmetic::operations::sum_sign` meets its contract. Assumes nothing.
 use Rattle.arithmetic.proofs.BinaryLaws.{sign-zero, sign-left, sign-right}
 use Rattle.arithmetic.proofs.operations.sum_sign.Statement.{statement}
 use Rattle.arithmetic.proofs.operations.sum_sign.Tie as tie
-use Rattle.arithmetic.proofs.operations.sum_sign.Reads as reads
-use Rattle.arithmetic.proofs.operations.sum_sign.Lts as lts
 
--- src/operations.rt:31:1
 returns : tie.Need-returns
 returns c = sign-zero _ _ _ _ _ (c .if1 .taken)
 
--- src/operations.rt:31:1
 returns-2 : tie.Need-returns-2
 returns-2 c = sign-left _ _ _ _ _ (c .before .if1 .left) (c .if2 .taken)
 
--- src/operations.rt:31:1
 returns-3 : tie.Need-returns-3
 returns-3 c = sign-right _ _ _ _ _ (c .before .if1 .left) (c .if2 .left)
 

@@ -1,27 +1,21 @@
+-- `arithmetic::operations::sum_size` meets its contract. Assumes nothing.
 use Rattle.arithmetic.proofs.BinaryLaws.{size-less, size-more, size-plus}
 use borrow.Author.Needs.{needs}
 use Rattle.arithmetic.proofs.operations.sum_size.Statement.{statement}
 use Rattle.arithmetic.proofs.operations.sum_size.Tie as tie
-use Rattle.arithmetic.proofs.operations.sum_size.Reads as reads
-use Rattle.arithmetic.proofs.operations.sum_size.Lts as lts
 
--- src/operations.rt:25:22
 sub-result : tie.Need-sub-result
 sub-result c = search needs
 
--- src/operations.rt:27:9
 add-result : tie.Need-add-result
 add-result c = search needs
 
--- src/operations.rt:20:1
 returns : tie.Need-returns
 returns c = size-less _ _ _ (c .before .if1 .taken) (c .if2 .taken)
 
--- src/operations.rt:20:1
 returns-2 : tie.Need-returns-2
 returns-2 c = size-more _ _ _ (c .before .if1 .taken) (c .if2 .left)
 
--- src/operations.rt:20:1
 returns-3 : tie.Need-returns-3
 returns-3 c = size-plus _ _ _ (c .if1 .left)
 

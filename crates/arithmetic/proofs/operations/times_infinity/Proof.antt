@@ -1,16 +1,13 @@
+-- `arithmetic::operations::times_infinity` meets its contract. Assumes nothing.
 use Rattle.arithmetic.proofs.BinaryLaws.{times-zero, times-some}
 use Rattle.arithmetic.proofs.operations.times_infinity.Statement.{statement}
 use Rattle.arithmetic.proofs.operations.times_infinity.Tie as tie
-use Rattle.arithmetic.proofs.operations.times_infinity.Reads as reads
-use Rattle.arithmetic.proofs.operations.times_infinity.Lts as lts
 
--- src/operations.rt:95:1
 returns : tie.Need-returns
 returns c = times-zero _ _ (c .if1 .taken)
 
--- src/operations.rt:95:1
 returns-2 : tie.Need-returns-2
-returns-2 c = times-some _ _ (c .before .if1 .left)
+returns-2 c = times-some _ _ (c .if1 .left)
 
 pub times-infinity-spec : {M : Type 1} → statement M
 times-infinity-spec = tie.close (tie.spec returns returns-2)

@@ -1,18 +1,14 @@
+-- `arithmetic::ordering::size_order` meets its contract. Assumes nothing.
 use Rattle.arithmetic.proofs.ComparisonLaws.{order-below, order-equal, order-above}
 use Rattle.arithmetic.proofs.ordering.size_order.Statement.{statement}
 use Rattle.arithmetic.proofs.ordering.size_order.Tie as tie
-use Rattle.arithmetic.proofs.ordering.size_order.Reads as reads
-use Rattle.arithmetic.proofs.ordering.size_order.Lts as lts
 
--- src/ordering.rt:28:9
 returns : tie.Need-returns
 returns c = order-below _ _ (c .if1 .taken)
 
--- src/ordering.rt:24:1
 returns-2 : tie.Need-returns-2
 returns-2 c = order-equal _ _ (c .before .if1 .left) (c .if2 .taken)
 
--- src/ordering.rt:24:1
 returns-3 : tie.Need-returns-3
 returns-3 c = order-above _ _ (c .before .if1 .left) (c .if2 .left)
 

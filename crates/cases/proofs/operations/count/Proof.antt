@@ -1,38 +1,29 @@
+-- `cases::operations::count` meets its contract. Assumes nothing.
 use Rattle.slash.proofs.BitLaws.{one-shl}
 use lib.Pow.{pow-mono}
 use native.Mathlib.Omega.{arith}
 use borrow.Author.Needs.{needs}
 use Rattle.cases.proofs.operations.count.Statement.{statement}
 use Rattle.cases.proofs.operations.count.Tie as tie
-use Rattle.cases.proofs.operations.count.Reads as reads
-use Rattle.cases.proofs.operations.count.Lts as lts
-use Rattle.slash.proofs.format.Format.width.Reads as width-reads
 
--- src/operations.rt:14:11
 width-requires : tie.Need-width-requires
 width-requires c κs = search needs
 
--- src/operations.rt:15:22
 enum-known-width : tie.Need-enum-known-width
 enum-known-width c = search needs
 
--- src/operations.rt:15:51
 shl-result : tie.Need-shl-result
 shl-result c = search needs
 
--- src/operations.rt:16:31
 enum-told : tie.Need-enum-told
 enum-told c = search needs
 
--- src/operations.rt:11:1
 returns : tie.Need-returns
 returns c = let l = c .if1 .taken in omega (arith, one-shl (c .before .before .width2 .given .0 .0) (omega arith), pow-mono l)
 
--- src/operations.rt:11:1
 returns-2 : tie.Need-returns-2
 returns-2 c = search needs
 
--- src/operations.rt:11:1
 returns-3 : tie.Need-returns-3
 returns-3 c = search needs
 

@@ -1,13 +1,10 @@
+-- `cases::table::list` meets its contract. Assumes nothing.
 use native.Mathlib.Omega.{arith}
 use native.Mathlib.Nat.{mod-lt}
 use borrow.Author.Needs.{needs}
 use Rattle.convergents.proofs.Euclid.{Inv, inv-start, inv-next, turn-bounds}
 use Rattle.cases.proofs.table.list.Statement.{statement}
 use Rattle.cases.proofs.table.list.Tie as tie
-use Rattle.cases.proofs.table.list.Reads as reads
-use Rattle.cases.proofs.table.list.Lts as lts
-use Rattle.cases.proofs.show.pair.Reads as pair-reads
-use Rattle.cases.proofs.show.text.Reads as text-reads
 
 abbrev Inv-loop : tie.InvT-loop
 Inv-loop n d p0₀ q0₀ p₀ q₀ u₀ v₀ t13 p0 q0 p q u v = Inv n d p0 q0 p q u v
@@ -15,59 +12,45 @@ Inv-loop n d p0₀ q0₀ p₀ q₀ u₀ v₀ t13 p0 q0 p q u v = Inv n d p0 q0 p
 abbrev μ-loop : tie.MeasureT-loop
 μ-loop n d p0₀ q0₀ p₀ q₀ u₀ v₀ t13 p0 q0 p q u v = v
 
--- src/table.rt:12:5
 pair-requires : tie.Need-pair-requires Inv-loop μ-loop
 pair-requires c κs = search needs
 
--- src/table.rt:13:5
 loop-holds : tie.Need-loop-holds Inv-loop μ-loop
 loop-holds c = inv-start _ _
 
--- src/table.rt:14:17
 div-a : tie.Need-div-a Inv-loop μ-loop
 div-a c = omega arith
 
--- src/table.rt:15:20
 rem-rest : tie.Need-rem-rest Inv-loop μ-loop
 rem-rest c = omega arith
 
--- src/table.rt:16:18
 mul-pn : tie.Need-mul-pn Inv-loop μ-loop
 mul-pn c = omega (arith, turn-bounds (c .before .loop .inv) (omega arith))
 
--- src/table.rt:16:18
 add-pn : tie.Need-add-pn Inv-loop μ-loop
 add-pn c = omega (arith, turn-bounds (c .before .loop .inv) (omega arith))
 
--- src/table.rt:17:18
 mul-qn : tie.Need-mul-qn Inv-loop μ-loop
 mul-qn c = omega (arith, turn-bounds (c .before .loop .inv) (omega arith))
 
--- src/table.rt:17:18
 add-qn : tie.Need-add-qn Inv-loop μ-loop
 add-qn c = omega (arith, turn-bounds (c .before .loop .inv) (omega arith))
 
--- src/table.rt:18:20
 slice-aggregate-text : tie.Need-slice-aggregate-text Inv-loop μ-loop
 slice-aggregate-text c = search needs
 
--- src/table.rt:18:9
 text-requires : tie.Need-text-requires Inv-loop μ-loop
 text-requires c κs = search needs
 
--- src/table.rt:19:9
 pair-requires-2 : tie.Need-pair-requires-2 Inv-loop μ-loop
 pair-requires-2 c κs = search needs
 
--- src/table.rt:13:5
 loop-less : tie.Need-loop-less Inv-loop μ-loop
 loop-less c = mod-lt (c .before .before .before .before .loop .u) (omega arith)
 
--- src/table.rt:13:5
 loop-again : tie.Need-loop-again Inv-loop μ-loop
 loop-again c = inv-next (c .before .before .before .before .loop .inv) (omega arith)
 
--- src/table.rt:5:1
 returns : tie.Need-returns Inv-loop μ-loop
 returns c = search needs
 

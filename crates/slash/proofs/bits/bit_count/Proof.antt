@@ -1,25 +1,20 @@
+-- `slash::bits::bit_count` meets its contract. Assumes nothing.
 use Rattle.slash.proofs.BitLaws.{bit-count-zero, bit-count-leading}
 use lib.Count.{leading-le}
 use mathlib.Core.Path.{sym}
 use native.Mathlib.Omega.{arith}
 use Rattle.slash.proofs.bits.bit_count.Statement.{statement}
 use Rattle.slash.proofs.bits.bit_count.Tie as tie
-use Rattle.slash.proofs.bits.bit_count.Reads as reads
-use Rattle.slash.proofs.bits.bit_count.Lts as lts
 
--- src/bits.rt:20:15
 cast-result : tie.Need-cast-result
 cast-result c = omega (arith, leading-le 64 (c .before .args .n))
 
--- src/bits.rt:20:9
 sub-result : tie.Need-sub-result
 sub-result c = leading-le 64 (c .before .args .n)
 
--- src/bits.rt:14:1
 returns : tie.Need-returns
 returns c = rw (c .if1 .taken) (sym bit-count-zero)
 
--- src/bits.rt:14:1
 returns-2 : tie.Need-returns-2
 returns-2 c = bit-count-leading (c .before .args .n) (omega arith) (omega arith)
 

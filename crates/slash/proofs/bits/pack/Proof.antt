@@ -1,22 +1,17 @@
+-- `slash::bits::pack` meets its contract. Assumes nothing.
 use native.Mathlib.Omega.{arith}
 use Prim.Native.Nat.{_+_, _*_, _^_, _<_}
 use Rattle.slash.proofs.BitLaws.{pack-bounds, pack-is}
 use borrow.Author.Needs.{needs}
 use Rattle.slash.proofs.bits.pack.Statement.{statement}
 use Rattle.slash.proofs.bits.pack.Tie as tie
-use Rattle.slash.proofs.bits.pack.Reads as reads
-use Rattle.slash.proofs.bits.pack.Lts as lts
-use Rattle.slash.proofs.bits.power.Reads as power-reads
 
--- src/bits.rt:52:9
 power-requires : tie.Need-power-requires
 power-requires c κs = search needs
 
--- src/bits.rt:53:9
 power-requires-2 : tie.Need-power-requires-2
 power-requires-2 c κs = search needs
 
--- src/bits.rt:54:9
 power-requires-3 : tie.Need-power-requires-3
 power-requires-3 c κs = search needs
 
@@ -30,31 +25,24 @@ bounds c =
     pack-bounds _ _ _ _ _ _ _ _ _ _ (c .before .before .power .ensures) (c .before .power2 .ensures) (c .power3 .ensures) (pre .0) (pre .1)
     (omega (arith, c .before .before .power .ensures)) (omega (arith, c .before .power2 .ensures)) (omega (arith, c .power3 .ensures))
 
--- src/bits.rt:55:7
 mul-result : tie.Need-mul-result
 mul-result c = omega (arith, bounds c)
 
--- src/bits.rt:55:7
 add-result : tie.Need-add-result
 add-result c = omega (arith, bounds c)
 
--- src/bits.rt:55:6
 mul-result-2 : tie.Need-mul-result-2
 mul-result-2 c = omega (arith, bounds c)
 
--- src/bits.rt:55:6
 add-result-2 : tie.Need-add-result-2
 add-result-2 c = omega (arith, bounds c)
 
--- src/bits.rt:55:5
 mul-result-3 : tie.Need-mul-result-3
 mul-result-3 c = omega (arith, bounds c)
 
--- src/bits.rt:55:5
 add-result-3 : tie.Need-add-result-3
 add-result-3 c = omega (arith, bounds c)
 
--- src/bits.rt:48:1
 returns : tie.Need-returns
 returns c =
     pack-is _ _ _ _ _ _ _ _ _ _ (c .before .before .power .ensures) (c .before .power2 .ensures) (c .power3 .ensures)

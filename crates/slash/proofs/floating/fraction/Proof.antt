@@ -1,33 +1,25 @@
+-- `slash::floating::fraction` meets its contract. Assumes nothing.
 use Rattle.slash.proofs.WordLaws.{floating-zero, floating-fraction, floating-sum}
 use native.Mathlib.Omega.{arith}
 use borrow.Author.Needs.{needs}
 use Rattle.slash.proofs.floating.fraction.Statement.{statement}
 use Rattle.slash.proofs.floating.fraction.Tie as tie
-use Rattle.slash.proofs.floating.fraction.Reads as reads
-use Rattle.slash.proofs.floating.fraction.Lts as lts
-use Rattle.slash.proofs.bits.power.Reads as power-reads
 
--- src/floating.rt:41:9
 power-requires : tie.Need-power-requires
 power-requires c κs = search needs
 
--- src/floating.rt:42:13
 div-n : tie.Need-div-n
 div-n c = floating-sum (c .before .args .negative) (c .before .args .e) (c .before .args .f) _ (c .power .ensures) (c .before .pre) .0
 
--- src/floating.rt:49:26
 rem-t8 : tie.Need-rem-t8
 rem-t8 c = let a = c .before .before .args in floating-sum (a .negative) (a .e) (a .f) _ (c .before .power .ensures) (c .before .before .pre) .0
 
--- src/floating.rt:49:26
 add-t9 : tie.Need-add-t9
 add-t9 c = let a = c .before .before .args in omega (arith, floating-sum (a .negative) (a .e) (a .f) _ (c .before .power .ensures) (c .before .before .pre))
 
--- src/floating.rt:37:1
 returns : tie.Need-returns
 returns c = floating-zero _ _ _ _ (c .before .power .ensures) (c .if1 .taken)
 
--- src/floating.rt:37:1
 returns-2 : tie.Need-returns-2
 returns-2 c = floating-fraction _ _ _ _ (c .before .power .ensures) (c .if1 .left)
 

@@ -1,3 +1,4 @@
+-- `slash::floating::is_undefined` meets its contract. Assumes nothing.
 use Rattle.slash.proofs.WordLaws.{undefined-is}
 use Rattle.slash.proofs.FormatLaws.{slash-bits-le, slash-bits-enough}
 use Prim.Native.Nat.{ℕ, _^_}
@@ -6,36 +7,25 @@ use native.Mathlib.Omega.{arith}
 use borrow.Author.Needs.{needs}
 use Rattle.slash.proofs.floating.is_undefined.Statement.{statement}
 use Rattle.slash.proofs.floating.is_undefined.Tie as tie
-use Rattle.slash.proofs.floating.is_undefined.Reads as reads
-use Rattle.slash.proofs.floating.is_undefined.Lts as lts
-use Rattle.slash.proofs.bits.power.Reads as power-reads
-use Rattle.slash.proofs.floating.slash_position.Reads as slash-position-reads
-use Rattle.slash.proofs.format.slash_bits.Reads as slash-bits-reads
 
--- src/floating.rt:29:9
 slash-position-requires : tie.Need-slash-position-requires
 slash-position-requires c κs = search needs
 
--- src/floating.rt:30:6
 sub-result : tie.Need-sub-result
 sub-result c = search needs
 
--- src/floating.rt:30:32
 slash-bits-requires : tie.Need-slash-bits-requires
 slash-bits-requires c κs = search needs
 
--- src/floating.rt:30:26
 power-requires : tie.Need-power-requires
 power-requires c κs =
     omega (arith, c .slash-bits .ensures, slash-bits-le _ (c .before .before .pre .1))
 
--- src/floating.rt:30:26
 sub-result-2 : tie.Need-sub-result-2
 sub-result-2 c =
     let pre = c .before .before .before .pre in
     omega (arith, c .power .ensures, ap (λ (l : ℕ). 2 ^ l) (c .before .slash-bits .ensures), slash-bits-enough (c .before .before .before .args .k))
 
--- src/floating.rt:25:1
 returns : tie.Need-returns
 returns c =
     undefined-is _ _ _ (c .before .before .slash-position .ensures) _ _ (c .before .slash-bits .ensures) (c .power .ensures)

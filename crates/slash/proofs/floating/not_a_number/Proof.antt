@@ -1,30 +1,24 @@
+-- `slash::floating::not_a_number` meets its contract. Assumes nothing.
 use Prim.Native.Nat.{_≤_}
 use Rattle.slash.proofs.WordLaws.{special-lt}
 use Rattle.slash.specs.Words.{floatingWord, floatingNan}
 use lib.Pow.{pow-mono}
-use Prim.Native.Nat.{ℕ, _-_, _^_}
+use Prim.Native.Nat.{ℕ, _-_}
 use mathlib.Core.Path.{ap, _∙_}
 use native.Mathlib.Omega.{arith}
 use borrow.Author.Needs.{needs}
 use Rattle.slash.proofs.floating.not_a_number.Statement.{statement}
 use Rattle.slash.proofs.floating.not_a_number.Tie as tie
-use Rattle.slash.proofs.floating.not_a_number.Reads as reads
-use Rattle.slash.proofs.floating.not_a_number.Lts as lts
-use Rattle.slash.proofs.floating.from_fields.Reads as from-fields-reads
-use Rattle.slash.proofs.floating.special_position.Reads as special-position-reads
 
--- src/floating.rt:122:26
 special-position-requires : tie.Need-special-position-requires
 special-position-requires c κs = search needs
 
--- src/floating.rt:122:5
 from-fields-requires : tie.Need-from-fields-requires
 from-fields-requires c κs =
     let pre = c .before .pre in
     let i : 1 ≤ c .before .args .k - 1 = omega arith in
     (pre .0, pre .1, omega arith, omega arith, special-lt _ _ (c .special-position .ensures), omega (arith, pow-mono i))
 
--- src/floating.rt:118:1
 returns : tie.Need-returns
 unfolding floatingNan
 returns c = c .from-fields .ensures ∙ ap (λ (e : ℕ). floatingWord (c .before .before .args .k) 0 0 e 1) (c .before .special-position .ensures)

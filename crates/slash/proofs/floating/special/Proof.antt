@@ -1,14 +1,11 @@
+-- `slash::floating::special` meets its contract. Assumes nothing.
 use Rattle.slash.proofs.WordLaws.{special-infinity, special-nan}
 use Rattle.slash.proofs.floating.special.Statement.{statement}
 use Rattle.slash.proofs.floating.special.Tie as tie
-use Rattle.slash.proofs.floating.special.Reads as reads
-use Rattle.slash.proofs.floating.special.Lts as lts
 
--- src/floating.rt:54:1
 returns : tie.Need-returns
 returns c = special-infinity _ _ (c .if1 .taken)
 
--- src/floating.rt:54:1
 returns-2 : tie.Need-returns-2
 returns-2 c = special-nan _ _ (c .if1 .left)
 

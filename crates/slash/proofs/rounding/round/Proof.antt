@@ -1,3 +1,4 @@
+-- `slash::rounding::round` meets its contract. Assumes nothing.
 use Rattle.slash.proofs.AnswerLaws.{plain-stop}
 use Rattle.slash.proofs.RoundingLaws.{ratio-unknown, ratio-zero, ratio-done}
 use borrow.Author.Tests.{not-true, not-false}
@@ -6,30 +7,20 @@ use mathlib.Core.Path.{sym, _∙_}
 use borrow.Author.Needs.{needs}
 use Rattle.slash.proofs.rounding.round.Statement.{statement}
 use Rattle.slash.proofs.rounding.round.Tie as tie
-use Rattle.slash.proofs.rounding.round.Reads as reads
-use Rattle.slash.proofs.rounding.round.Lts as lts
-use Rattle.slash.proofs.answer.Stop.plain.Reads as plain-reads
-use Rattle.slash.proofs.format.Format.is_known.Reads as is-known-reads
-use Rattle.slash.proofs.rounding.last_held.Reads as last-held-reads
 
--- src/rounding.rt:88:9
 is-known-requires : tie.Need-is-known-requires
 is-known-requires c κs = search needs
 
--- src/rounding.rt:89:34
 plain-requires : tie.Need-plain-requires
 plain-requires c κs = search needs
 
--- src/rounding.rt:89:9
 returns : tie.Need-returns
 returns c =
     (plain-stop _ 1 (c .plain .ensures) (ratio-unknown _ _ _ (sym (c .before .before .is-known .ensures) ∙ not-true _ (c .before .if1 .taken))), tt)
 
--- src/rounding.rt:92:34
 plain-requires-2 : tie.Need-plain-requires-2
 plain-requires-2 c κs = search needs
 
--- src/rounding.rt:92:9
 returns-2 : tie.Need-returns-2
 returns-2 c = (
   plain-stop _ 6 (c .plain2 .ensures)
@@ -37,12 +28,10 @@ returns-2 c = (
   tt,
 )
 
--- src/rounding.rt:94:20
 last-held-requires : tie.Need-last-held-requires
 last-held-requires c κs =
     (sym (c .before .before .is-known .ensures) ∙ not-false _ (c .before .if1 .left), omega arith)
 
--- src/rounding.rt:84:1
 returns-3 : tie.Need-returns-3
 returns-3 c =
     (ratio-done _ _ _ (sym (c .before .before .before .is-known .ensures) ∙ not-false _ (c .before .before .if1 .left)) (c .before .if2 .left) _ (c .last-held .ensures .0), c .last-held .ensures .1)

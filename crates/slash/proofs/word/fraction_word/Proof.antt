@@ -1,22 +1,15 @@
+-- `slash::word::fraction_word` meets its contract. Assumes nothing.
 use Rattle.slash.proofs.WriteLaws.{word-rounded}
 use mathlib.Core.Path.{refl}
-use borrow.Author.Needs.{needs}
 use Rattle.slash.proofs.word.fraction_word.Statement.{statement}
 use Rattle.slash.proofs.word.fraction_word.Tie as tie
-use Rattle.slash.proofs.word.fraction_word.Reads as reads
-use Rattle.slash.proofs.word.fraction_word.Lts as lts
-use Rattle.slash.proofs.rounding.last_held.Reads as last-held-reads
-use Rattle.slash.proofs.word.pair_word.Reads as pair-word-reads
 
--- src/word.rt:106:9
 last-held-requires : tie.Need-last-held-requires
 last-held-requires c κs = c .pre
 
--- src/word.rt:108:5
 pair-word-requires : tie.Need-pair-word-requires
 pair-word-requires c κs = (c .before .before .pre .0, c .before .last-held .ensures .1 .isHeld)
 
--- src/word.rt:101:1
 returns : tie.Need-returns
 returns c =
     let rounded = c .before .before .last-held .ensures in

@@ -1,39 +1,30 @@
+-- `slash::word::is_over_zero` meets its contract. Assumes nothing.
 use Rattle.slash.proofs.WriteLaws.{over-fraction, over-zero, over-infinity, over-nan}
 use borrow.Author.Needs.{needs}
 use Rattle.slash.proofs.word.is_over_zero.Statement.{statement}
 use Rattle.slash.proofs.word.is_over_zero.Tie as tie
-use Rattle.slash.proofs.word.is_over_zero.Reads as reads
-use Rattle.slash.proofs.word.is_over_zero.Lts as lts
 
--- src/word.rt:128:25
 enum-known-v : tie.Need-enum-known-v
 enum-known-v c = search needs
 
--- src/word.rt:129:27
 enum-told : tie.Need-enum-told
 enum-told c = search needs
 
--- src/word.rt:130:31
 enum-told-2 : tie.Need-enum-told-2
 enum-told-2 c = search needs
 
--- src/word.rt:131:30
 enum-told-3 : tie.Need-enum-told-3
 enum-told-3 c = search needs
 
--- src/word.rt:124:1
 returns : tie.Need-returns
 returns c = over-fraction _ _ (c .before .before .v .given .1)
 
--- src/word.rt:124:1
 returns-2 : tie.Need-returns-2
 returns-2 c = over-zero _ _ (c .enum-told .given .1)
 
--- src/word.rt:124:1
 returns-3 : tie.Need-returns-3
 returns-3 c = over-infinity _ _ (c .enum-told2 .given .1)
 
--- src/word.rt:124:1
 returns-4 : tie.Need-returns-4
 returns-4 c = over-nan _ (c .enum-told3 .given .1)
 

@@ -1,3 +1,4 @@
+-- `slash::word::read` meets its contract. Assumes nothing.
 use Rattle.slash.proofs.AnswerLaws.{plain-stop}
 use Rattle.slash.proofs.WordLaws.{read-unknown, read-stop, read-done}
 use borrow.Author.Tests.{not-true, not-false}
@@ -5,45 +6,31 @@ use mathlib.Core.Path.{sym, _∙_}
 use borrow.Author.Needs.{needs}
 use Rattle.slash.proofs.word.read.Statement.{statement}
 use Rattle.slash.proofs.word.read.Tie as tie
-use Rattle.slash.proofs.word.read.Reads as reads
-use Rattle.slash.proofs.word.read.Lts as lts
-use Rattle.slash.proofs.answer.Stop.plain.Reads as plain-reads
-use Rattle.slash.proofs.format.Format.is_known.Reads as is-known-reads
-use Rattle.slash.proofs.word.number.Reads as number-reads
-use Rattle.slash.proofs.word.word_stop.Reads as word-stop-reads
 
--- src/word.rt:66:9
 is-known-requires : tie.Need-is-known-requires
 is-known-requires c κs = search needs
 
--- src/word.rt:67:33
 plain-requires : tie.Need-plain-requires
 plain-requires c κs = search needs
 
--- src/word.rt:67:9
 returns : tie.Need-returns
 returns c =
     plain-stop _ 1 (c .plain .ensures) (read-unknown _ _ (sym (c .before .before .is-known .ensures) ∙ not-true _ (c .before .if1 .taken)))
 
--- src/word.rt:69:9
 word-stop-requires : tie.Need-word-stop-requires
 word-stop-requires c κs = sym (c .before .is-known .ensures) ∙ not-false _ (c .if1 .left)
 
--- src/word.rt:71:33
 plain-requires-2 : tie.Need-plain-requires-2
 plain-requires-2 c κs = search needs
 
--- src/word.rt:71:9
 returns-2 : tie.Need-returns-2
 returns-2 c =
     plain-stop _ _ (c .plain2 .ensures)
     (read-stop _ _ (sym (c .before .before .before .before .is-known .ensures) ∙ not-false _ (c .before .before .before .if1 .left)) _ (c .before .before .word-stop .ensures) (c .before .if2 .taken))
 
--- src/word.rt:73:19
 number-requires : tie.Need-number-requires
 number-requires c κs = sym (c .before .before .before .is-known .ensures) ∙ not-false _ (c .before .before .if1 .left)
 
--- src/word.rt:63:1
 returns-3 : tie.Need-returns-3
 returns-3 c =
     read-done _ _ (sym (c .before .before .before .before .is-known .ensures) ∙ not-false _ (c .before .before .before .if1 .left)) _ (c .before .before .word-stop .ensures) (c .before .if2 .left) _ (c .number .ensures)

@@ -1,65 +1,49 @@
+-- `slash::word::value_word` meets its contract. Assumes nothing.
 use Rattle.slash.proofs.WriteLaws.{zero-held, word-zero, word-infinity, word-nan, word-case, over-some}
 use Rattle.convergents.proofs.Optimal.{one-held}
 use borrow.Author.Needs.{needs}
 use Rattle.slash.proofs.word.value_word.Statement.{statement}
 use Rattle.slash.proofs.word.value_word.Tie as tie
-use Rattle.slash.proofs.word.value_word.Reads as reads
-use Rattle.slash.proofs.word.value_word.Lts as lts
-use Rattle.slash.proofs.word.fraction_word.Reads as fraction-word-reads
-use Rattle.slash.proofs.word.nan_word.Reads as nan-word-reads
-use Rattle.slash.proofs.word.pair_word.Reads as pair-word-reads
 
--- src/word.rt:117:25
 enum-known-v : tie.Need-enum-known-v
 enum-known-v c = search needs
 
--- src/word.rt:117:31
 fraction-word-requires : tie.Need-fraction-word-requires
 fraction-word-requires c κs =
     let pre = c .before .before .before .pre in
     (pre .0, over-some _ _ (c .before .v .given .1) (pre .1))
 
--- src/word.rt:118:21
 enum-known-v-2 : tie.Need-enum-known-v-2
 enum-known-v-2 c = search needs
 
--- src/word.rt:118:27
 pair-word-requires : tie.Need-pair-word-requires
 pair-word-requires c κs = let h = c .before .before .before .pre .0 in (h, zero-held _ h)
 
--- src/word.rt:119:25
 enum-known-v-3 : tie.Need-enum-known-v-3
 enum-known-v-3 c = search needs
 
--- src/word.rt:119:31
 pair-word-requires-2 : tie.Need-pair-word-requires-2
 pair-word-requires-2 c κs = (c .before .before .before .pre .0, one-held _)
 
--- src/word.rt:120:30
 enum-told : tie.Need-enum-told
 enum-told c = search needs
 
--- src/word.rt:120:30
 nan-word-requires : tie.Need-nan-word-requires
 nan-word-requires c κs = c .before .before .pre .0
 
--- src/word.rt:111:1
 returns : tie.Need-returns
 returns c = word-case _ (c .before .before .before .before .pre .0) _ _ _ _ (c .before .before .v .given .1) (c .fraction-word .ensures)
 
--- src/word.rt:111:1
 returns-2 : tie.Need-returns-2
 returns-2 c =
     let h = c .before .before .before .before .pre .0 in
     word-case _ h _ _ _ _ (c .before .before .v2 .given .1) (word-zero _ h _ _ _ (c .pair-word .ensures))
 
--- src/word.rt:111:1
 returns-3 : tie.Need-returns-3
 returns-3 c =
     let h = c .before .before .before .before .pre .0 in
     word-case _ h _ _ _ _ (c .before .before .v3 .given .1) (word-infinity _ h _ _ _ (c .pair-word2 .ensures))
 
--- src/word.rt:111:1
 returns-4 : tie.Need-returns-4
 returns-4 c =
     let h = c .before .before .before .pre .0 in

@@ -1,3 +1,4 @@
+-- `slash::word::write` meets its contract. Assumes nothing.
 use Rattle.slash.proofs.AnswerLaws.{plain-stop}
 use Rattle.slash.proofs.WriteLaws.{write-unknown, write-over-zero, write-done}
 use Rattle.slash.specs.Answers.{done}
@@ -6,35 +7,23 @@ use mathlib.Core.Path.{sym, ap, _∙_}
 use borrow.Author.Needs.{needs}
 use Rattle.slash.proofs.word.write.Statement.{statement}
 use Rattle.slash.proofs.word.write.Tie as tie
-use Rattle.slash.proofs.word.write.Reads as reads
-use Rattle.slash.proofs.word.write.Lts as lts
-use Rattle.slash.proofs.answer.Stop.plain.Reads as plain-reads
-use Rattle.slash.proofs.format.Format.is_known.Reads as is-known-reads
-use Rattle.slash.proofs.word.is_over_zero.Reads as is-over-zero-reads
-use Rattle.slash.proofs.word.value_word.Reads as value-word-reads
 
--- src/word.rt:138:9
 is-known-requires : tie.Need-is-known-requires
 is-known-requires c κs = search needs
 
--- src/word.rt:139:32
 plain-requires : tie.Need-plain-requires
 plain-requires c κs = search needs
 
--- src/word.rt:139:9
 returns : tie.Need-returns
 returns c =
     (plain-stop _ 1 (c .plain .ensures) (write-unknown _ _ (sym (c .before .before .is-known .ensures) ∙ not-true _ (c .before .if1 .taken))), tt)
 
--- src/word.rt:142:8
 is-over-zero-requires : tie.Need-is-over-zero-requires
 is-over-zero-requires c κs = search needs
 
--- src/word.rt:143:32
 plain-requires-2 : tie.Need-plain-requires-2
 plain-requires-2 c κs = search needs
 
--- src/word.rt:143:9
 returns-2 : tie.Need-returns-2
 returns-2 c = (
   plain-stop _ 6 (c .plain2 .ensures)
@@ -43,12 +32,10 @@ returns-2 c = (
   tt,
 )
 
--- src/word.rt:145:18
 value-word-requires : tie.Need-value-word-requires
 value-word-requires c κs =
     (sym (c .before .before .before .is-known .ensures) ∙ not-false _ (c .before .before .if1 .left), sym (c .before .is-over-zero .ensures) ∙ c .if2 .left)
 
--- src/word.rt:134:1
 returns-3 : tie.Need-returns-3
 returns-3 c = (
   ap done (c .value-word .ensures .0)

@@ -1,27 +1,20 @@
+-- `slash::format::Format::make` meets its contract. Assumes nothing.
 use Rattle.slash.proofs.AnswerLaws.{plain-stop}
 use Rattle.slash.proofs.FormatLaws.{make-known, make-unknown}
 use mathlib.Core.Path.{sym, _∙_}
 use borrow.Author.Needs.{needs}
 use Rattle.slash.proofs.format.Format.make.Statement.{statement}
 use Rattle.slash.proofs.format.Format.make.Tie as tie
-use Rattle.slash.proofs.format.Format.make.Reads as reads
-use Rattle.slash.proofs.format.Format.make.Lts as lts
-use Rattle.slash.proofs.answer.Stop.plain.Reads as plain-reads
-use Rattle.slash.proofs.format.Format.is_known.Reads as is-known-reads
 
--- src/format.rt:40:12
 is-known-requires : tie.Need-is-known-requires
 is-known-requires c κs = search needs
 
--- src/format.rt:43:27
 plain-requires : tie.Need-plain-requires
 plain-requires c κs = search needs
 
--- src/format.rt:36:5
 returns : tie.Need-returns
 returns c = make-known _ _ (sym (c .before .is-known .ensures) ∙ c .if1 .taken)
 
--- src/format.rt:36:5
 returns-2 : tie.Need-returns-2
 returns-2 c =
     plain-stop _ 1 (c .plain .ensures) (make-unknown _ _ (sym (c .before .before .is-known .ensures) ∙ c .before .if1 .left))
