@@ -10,12 +10,20 @@ import cases_words
 import checks
 
 # The modules whose requests are written, one after the other.
-CASE_MODULES = [cases_words, cases_binary]
+CASE_MODULES = [cases_words, cases_binary, cases_unary]
+
+# The letters of the requests that the library has the functions for: u and U are still to come.
+LETTERS = "frwncbBoOvVgGq"
 
 
 def outputs():
     """Each file to write: its path below the directory, and its lines."""
-    requests = [line for module in CASE_MODULES for line in module.requests()]
+    requests = [
+        line
+        for module in CASE_MODULES
+        for line in module.requests()
+        if line[0] in LETTERS
+    ]
     yield os.path.join("cases", "stdin"), requests
     yield os.path.join("cases", "stdout"), map(answers.answer, requests)
 

@@ -4,6 +4,7 @@
 mod operations;
 mod requests;
 mod show;
+mod single;
 mod table;
 mod words;
 

@@ -2,6 +2,7 @@
 use crate::Line;
 use crate::operations;
 use crate::show;
+use crate::single;
 use crate::table;
 use crate::words;
 use slash::Format;
@@ -31,6 +32,9 @@ pub(crate) fn run(line: Line) {
         b'O' => operations::compare_all(f, a[3]),
         b'v' => operations::convert(f, to, a[5]),
         b'V' => operations::convert_all(f, to),
+        b'g' => single::gcd(f, a[3]),
+        b'G' => single::gcd_all(f),
+        b'q' => single::quotients(f, a[3], a[4]),
         _ => show::text(b"unknown"),
     }
     show::text(b"\n");

@@ -277,3 +277,14 @@ module _ (f : Format) (h : known f ≡ true) where
           let b : (r ≤ 2 ^ (f .k - 1) - 1) × (s ≤ 2 ^ (f .k - 1) - 1) = rw (ne-eqb _ _ n) at most in
           let i : f .k - 1 ≤ 31 = omega (arith, known-k f h) in
           omega (arith, pow-pos (f .k - 1), pow-mono i)
+
+  -- a denominator takes at most k bits
+  pub denominator-below : (r s : ℕ) → holds f r s ≡ true → s < 2 ^ f .k
+  denominator-below r s l = go (ℕ-discrete (f .kind) 1)
+    where
+      go : Dec (f .kind ≡ 1) → s < 2 ^ f .k
+      go (yes e) = fixed-holds f r s e l .1
+      go (no n) =
+          let b = floating-holds f r s n l in
+          let i : bitCount s ≤ f .k = omega arith in
+          omega (arith, bit-count-lt s, pow-mono i)

@@ -1,0 +1,71 @@
+// Requests on one word.
+ghost use Prim.Native.Nat.{_≤_};
+use crate::operations::count;
+use crate::show;
+use slash::Answer;
+use slash::Format;
+
+// A number in decimal, or a stop in full.
+fn show_decimal(a: Answer) {
+    match a {
+        Answer::Done(n) => show::number(n),
+        Answer::Stopped(s) => show::stop(s),
+    }
+}
+
+// g KIND K WORD
+pub(crate) fn gcd(f: Format, w: u64) {
+    show_decimal(unary::gcd(f, w));
+}
+
+// One of many answers, parted by spaces; a stop is ! and its number.
+fn show_one(first: bool, a: Answer) {
+    if !first {
+        show::text(b" ");
+    }
+    match a {
+        Answer::Done(n) => show::number(n),
+        Answer::Stopped(s) => {
+            show::text(b"!");
+            show::number(s.number);
+        }
+    }
+}
+
+// G KIND K
+pub(crate) fn gcd_all(f: Format) {
+    let n = count(f);
+    let mut w: u64 = 0;
+    while w < n {
+        show_one(w == 0, unary::gcd(f, w));
+        w += 1;
+    }
+}
+
+fn wide(x: u32) -> u64 {
+    x as u64
+}
+
+fn show_list(list: &[u32]) {
+    let mut i = 0;
+    while i < list.len() {
+        show::text(b" ");
+        show::number(wide(list[i]));
+        i += 1;
+    }
+}
+
+fn at_most_70(length: u64) -> usize
+    ensures { λ r. ⌜ r ≤ 70 ⌝ }
+{
+    if length <= 70 { length as usize } else { 70 }
+}
+
+// q KIND K LENGTH WORD: a list of so many places is lent, each 4242, and shown after the call.
+pub(crate) fn quotients(f: Format, length: u64, w: u64) {
+    let mut list = [4242u32; 70];
+    let n = at_most_70(length);
+    let lent = &mut list[..n];
+    show_decimal(unary::quotients(f, w, lent));
+    show_list(lent);
+}

@@ -1,0 +1,3 @@
+-- What the papers say of operations on one word, in their order.
+pub mod Divisor
+pub mod Quotients
