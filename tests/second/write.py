@@ -12,8 +12,8 @@ import checks
 # The modules whose requests are written, one after the other.
 CASE_MODULES = [cases_words, cases_binary, cases_unary]
 
-# The letters of the requests that the library has the functions for: u and U are still to come.
-LETTERS = "frwncbBoOvVgGq"
+# The letters of the requests that the library has the functions for.
+LETTERS = "frwncbBoOvVuUgGq"
 
 
 def outputs():

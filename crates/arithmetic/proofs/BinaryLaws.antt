@@ -10,7 +10,7 @@ use borrow.Author.Tests.{le-leb, lt-leb, eq-eqb, ne-eqb}
 use Rattle.convergents.specs.Choice.{if_then_else_}
 use Rattle.slash.specs.Answers.{Outcome, stop, done, _then_, WhenDone}
 use Rattle.slash.specs.Formats.{known}
-use Rattle.slash.specs.Words.{numberOf, readWord, isOverZero, writeNumber, BestWord}
+use Rattle.slash.specs.Words.{numberOf, readWord, isOverZero, writeNumber, BestWord, isNan}
 use Rattle.slash.proofs.AnswerLaws.{then-stop, then-done}
 use Rattle.slash.proofs.RoundTrip.{Says}
 use Rattle.slash.proofs.WriteLaws.{write-done}
@@ -20,7 +20,7 @@ use Rattle.slash.specs.declared.number.Parts.{Parts}
 use Rattle.slash.specs.declared.number.Value.{Value}
 use Rattle.slash.specs.declared.number.Value.the-variants.{Fraction, Zero, Infinity, NotANumber}
 use Rattle.slash.specs.declared.number.Number.{Number}
-use Rattle.arithmetic.specs.Operands.{isNan, operandOf, signOf, differ, turned, Small}
+use Rattle.arithmetic.specs.Operands.{operandOf, signOf, differ, turned, Small}
 use Rattle.arithmetic.specs.Binary.{sumSize, sumSign, sumParts, sumOf, timesInfinity, productParts, productOf, dividedBy, quotientOf, exactOf, exactValue, isBinary, combined, combinedWords, binaryWord}
 use Rattle.arithmetic.specs.declared.operand.Operand.{Operand}
 use Rattle.arithmetic.specs.declared.operand.Operand.the-variants.{Finite, Infinite}

@@ -5,12 +5,12 @@ use Prim.Native.Nat.{ℕ, _≤_, _<_}
 use lib.Dec.{eqb}
 use borrow.Author.Tests.{lt-ltb, le-ltb, eq-eqb, ne-eqb}
 use Rattle.slash.specs.Answers.{Outcome, stop, done, _then_}
-use Rattle.slash.specs.Words.{readWord}
+use Rattle.slash.specs.Words.{readWord, isNan}
 use Rattle.slash.proofs.AnswerLaws.{then-stop, then-done}
 use Rattle.slash.specs.declared.format.Format.{Format}
 use Rattle.slash.specs.declared.number.Value.{Value}
 use Rattle.slash.specs.declared.number.Number.{Number}
-use Rattle.arithmetic.specs.Operands.{isNan, operandOf}
+use Rattle.arithmetic.specs.Operands.{operandOf}
 use Rattle.arithmetic.specs.Comparison.{orderOf, signedOrder, outside, compareOf, compareValues, compareWords}
 use Rattle.arithmetic.specs.declared.operand.Operand.{Operand}
 use Rattle.arithmetic.specs.declared.ordering.Order.{Order}

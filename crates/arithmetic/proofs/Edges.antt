@@ -7,8 +7,8 @@ use Rattle.convergents.specs.Rounding.{held, lastHeld, round}
 use Rattle.slash.specs.Bits.{leastFrom, leastPower, bitCount, bits, bit, bitOf, fields}
 use Rattle.slash.specs.Formats.{known, slashBits, widthOf, holds}
 use Rattle.slash.specs.Rounding.{rounded, roundRatio}
-use Rattle.slash.specs.Words.{fixedValue, fixedNumber, numberOf, isAbove, wordStop, readWord, fixedWord, floatingWord, floatingPair, pairWord, wordFor, isOverZero, writeNumber}
-use Rattle.arithmetic.specs.Operands.{isNan, operandOf}
+use Rattle.slash.specs.Words.{fixedValue, fixedNumber, numberOf, isAbove, wordStop, readWord, fixedWord, floatingWord, floatingPair, pairWord, wordFor, isOverZero, writeNumber, isNan}
+use Rattle.arithmetic.specs.Operands.{operandOf}
 use Rattle.arithmetic.specs.Binary.{sumSize, sumSign, sumParts, sumOf, exactOf, exactValue, isBinary, combined, combinedWords, binaryWord}
 use Rattle.arithmetic.specs.Edges.{edges, same, isRounded, isWord, agrees, allAgree}
 

@@ -1,5 +1,5 @@
--- Laws of operands: what a word says is small, and a function of operands goes by their cases. Assumes nothing.
-use mathlib.Core.Path.{_≡_, sym, ap, ap₂, _∙_, subst}
+-- Laws of operands: what a word says is small. Assumes nothing.
+use mathlib.Core.Path.{_≡_, subst}
 use mathlib.Core.Bool.{true}
 use Prim.Native.Nat.{ℕ, _*_, _^_, _≤_, _<_}
 use native.Mathlib.Omega.{arith}
@@ -18,13 +18,6 @@ use Rattle.slash.specs.declared.number.Number.{Number}
 use Rattle.arithmetic.specs.Operands.{operandOf, turned, Small}
 use Rattle.arithmetic.specs.declared.operand.Operand.{Operand}
 use Rattle.arithmetic.specs.declared.operand.Operand.the-variants.{Finite, Infinite}
-
--- what a function F comes to at a value that the code knows by its case
-pub at-one : {A B : Type 0} (F : A → B) {x u : A} {r : B} → x ≡ u → r ≡ F u → r ≡ F x
-at-one F e h = h ∙ ap F (sym e)
-
-pub at-both : {A B C : Type 0} (F : A → B → C) {x u : A} {y v : B} {r : C} → x ≡ u → y ≡ v → r ≡ F u v → r ≡ F x y
-at-both F e g h = h ∙ ap₂ F (sym e) (sym g)
 
 -- ---- sizes
 

@@ -5,13 +5,13 @@ use lib.Dec.{leb, eqb}
 use Rattle.convergents.specs.Choice.{if_then_else_}
 use Rattle.slash.specs.Answers.{Outcome, stop, done, _then_}
 use Rattle.slash.specs.Formats.{known}
-use Rattle.slash.specs.Words.{readWord, wordFor}
+use Rattle.slash.specs.Words.{readWord, wordFor, isNan}
 use Rattle.slash.specs.declared.format.Format.{Format}
 use Rattle.slash.specs.declared.number.Parts.{Parts}
 use Rattle.slash.specs.declared.number.Value.{Value}
 use Rattle.slash.specs.declared.number.Value.the-variants.{Fraction, Zero, Infinity, NotANumber}
 use Rattle.slash.specs.declared.number.Number.{Number}
-use Rattle.arithmetic.specs.Operands.{isNan, operandOf, signOf, differ, turned}
+use Rattle.arithmetic.specs.Operands.{operandOf, signOf, differ, turned}
 use Rattle.arithmetic.specs.declared.operand.Operand.{Operand}
 use Rattle.arithmetic.specs.declared.operand.Operand.the-variants.{Finite, Infinite}
 

@@ -4,11 +4,11 @@ use mathlib.Core.Bool.{Bool, not, _&&_, _||_}
 use lib.Dec.{ltb, eqb}
 use Rattle.convergents.specs.Choice.{if_then_else_}
 use Rattle.slash.specs.Answers.{Outcome, stop, done, _then_}
-use Rattle.slash.specs.Words.{readWord}
+use Rattle.slash.specs.Words.{readWord, isNan}
 use Rattle.slash.specs.declared.format.Format.{Format}
 use Rattle.slash.specs.declared.number.Parts.{Parts}
 use Rattle.slash.specs.declared.number.Value.{Value}
-use Rattle.arithmetic.specs.Operands.{isNan, operandOf, differ}
+use Rattle.arithmetic.specs.Operands.{operandOf, differ}
 use Rattle.arithmetic.specs.declared.ordering.Comparison.{Comparison}
 use Rattle.arithmetic.specs.declared.ordering.Comparison.the-variants as Comparison
 use Rattle.arithmetic.specs.declared.ordering.Order.{Order}

@@ -1,17 +1,11 @@
 -- Operands: a word's value as the operations take it.
 use Prim.Native.Nat.{ℕ, _≤_, _<_, _^_}
-use mathlib.Core.Bool.{Bool, true, false, not, Bool·beq}
+use mathlib.Core.Bool.{Bool, false, not, Bool·beq}
 use Rattle.slash.specs.declared.number.Parts.{Parts}
 use Rattle.slash.specs.declared.number.Value.{Value}
 use Rattle.slash.specs.declared.number.Value.the-variants.{Fraction, Zero, Infinity, NotANumber}
 use Rattle.arithmetic.specs.declared.operand.Operand.{Operand}
 use Rattle.arithmetic.specs.declared.operand.Operand.the-variants.{Finite, Infinite}
-
-unfoldable pub isNan : Value → Bool
-isNan (Fraction p) = false
-isNan (Zero s) = false
-isNan (Infinity s) = false
-isNan NotANumber = true
 
 -- Finite operands are read by their fields as a/b, zero as 0/1, the sign apart. (Not-a-number is taken out before: `isNan`.)
 unfoldable pub operandOf : Value → Operand

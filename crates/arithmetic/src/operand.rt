@@ -1,7 +1,7 @@
 // An operand of an operation: a finite value with its parts, or an infinity. Not-a-number is taken
 // out before.
 ghost use mathlib.Core.Path.{_≡_};
-ghost use Rattle.arithmetic.specs.Operands.{isNan, operandOf, signOf};
+ghost use Rattle.arithmetic.specs.Operands.{operandOf, signOf};
 use slash::Parts;
 use slash::Value;
 
@@ -23,17 +23,6 @@ pub(crate) fn as_operand(v: Value) -> Operand
         }),
         Value::Infinity(s) => Operand::Infinite(s),
         Value::NotANumber => Operand::Infinite(false),
-    }
-}
-
-pub(crate) fn is_nan(v: Value) -> bool
-    ensures { λ r. ⌜ r ≡ isNan v ⌝ }
-{
-    match v {
-        Value::Fraction(_) => false,
-        Value::Zero(_) => false,
-        Value::Infinity(_) => false,
-        Value::NotANumber => true,
     }
 }
 

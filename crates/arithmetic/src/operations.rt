@@ -9,7 +9,6 @@ ghost use Rattle.arithmetic.specs.Operands.{Small, operandOf, turned};
 ghost use Rattle.arithmetic.specs.Binary.{sumSize, sumSign, sumParts, sumOf, timesInfinity, productParts, productOf, dividedBy, quotientOf, exactOf, exactValue, isBinary, combined, combinedWords, binaryWord};
 use crate::operand::Operand;
 use crate::operand::as_operand;
-use crate::operand::is_nan;
 use crate::operand::sign;
 use slash::Answer;
 use slash::Format;
@@ -185,7 +184,7 @@ fn exact_value(code: u64, v: Value, w: Value) -> Value
     requires { ⌜ Small (operandOf v) × Small (operandOf w) ⌝ }
     ensures { λ r. ⌜ r ≡ exactValue code v w ⌝ }
 {
-    if is_nan(v) | is_nan(w) {
+    if slash::is_nan(v) | slash::is_nan(w) {
         return Value::NotANumber;
     }
     exact(code, as_operand(v), as_operand(w))

@@ -4,7 +4,6 @@ ghost use Rattle.arithmetic.specs.Operands.{Small, operandOf};
 ghost use Rattle.arithmetic.specs.Comparison.{comparisonOutcome, orderOf, signedOrder, outside, compareOf, compareValues, compareWords};
 use crate::operand::Operand;
 use crate::operand::as_operand;
-use crate::operand::is_nan;
 use slash::Format;
 use slash::Reading;
 use slash::Stop;
@@ -84,7 +83,7 @@ fn compare_values(v: Value, w: Value) -> Order
     requires { ⌜ Small (operandOf v) × Small (operandOf w) ⌝ }
     ensures { λ r. ⌜ r ≡ compareValues v w ⌝ }
 {
-    if is_nan(v) | is_nan(w) {
+    if slash::is_nan(v) | slash::is_nan(w) {
         return Order::Unordered;
     }
     compare_operands(as_operand(v), as_operand(w))

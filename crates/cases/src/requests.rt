@@ -32,6 +32,8 @@ pub(crate) fn run(line: Line) {
         b'O' => operations::compare_all(f, a[3]),
         b'v' => operations::convert(f, to, a[5]),
         b'V' => operations::convert_all(f, to),
+        b'u' => single::operation(f, a[3], a[4]),
+        b'U' => single::operation_all(f, a[3]),
         b'g' => single::gcd(f, a[3]),
         b'G' => single::gcd_all(f),
         b'q' => single::quotients(f, a[3], a[4]),

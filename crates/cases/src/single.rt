@@ -1,6 +1,8 @@
 // Requests on one word.
 ghost use Prim.Native.Nat.{_≤_};
+use crate::operations;
 use crate::operations::count;
+use crate::operations::show_word;
 use crate::show;
 use slash::Answer;
 use slash::Format;
@@ -10,6 +12,21 @@ fn show_decimal(a: Answer) {
     match a {
         Answer::Done(n) => show::number(n),
         Answer::Stopped(s) => show::stop(s),
+    }
+}
+
+// u KIND K CODE WORD
+pub(crate) fn operation(f: Format, code: u64, w: u64) {
+    show_word(unary::unary(f, code, w));
+}
+
+// U KIND K CODE
+pub(crate) fn operation_all(f: Format, code: u64) {
+    let n = count(f);
+    let mut w: u64 = 0;
+    while w < n {
+        operations::show_one(w == 0, unary::unary(f, code, w));
+        w += 1;
     }
 }
 

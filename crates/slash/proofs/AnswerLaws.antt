@@ -1,5 +1,5 @@
--- Laws of outcomes. Assumes nothing.
-use mathlib.Core.Path.{_≡_, sym, ap, _∙_}
+-- Laws of outcomes, and of functions that go by cases. Assumes nothing.
+use mathlib.Core.Path.{_≡_, sym, ap, ap₂, _∙_}
 use Prim.Native.Nat.{ℕ}
 use Rattle.slash.specs.Answers.{Outcome, stop, done, _then_, readingOutcome}
 use Rattle.slash.specs.declared.answer.Stop.{Stop}
@@ -29,3 +29,10 @@ module _ {r : Reading} {o : Outcome Number} (h : readingOutcome r ≡ o) where
 
   pub reading-done : {x : Number} → r ≡ Reading.Done x → done x ≡ o
   reading-done e = sym (ap readingOutcome e) ∙ h
+
+-- what a function F comes to at a value that the code knows by its case
+pub at-one : {A B : Type 0} (F : A → B) {x u : A} {r : B} → x ≡ u → r ≡ F u → r ≡ F x
+at-one F e h = h ∙ ap F (sym e)
+
+pub at-both : {A B C : Type 0} (F : A → B → C) {x u : A} {y v : B} {r : C} → x ≡ u → y ≡ v → r ≡ F u v → r ≡ F x y
+at-both F e g h = h ∙ ap₂ F (sym e) (sym g)

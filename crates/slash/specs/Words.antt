@@ -1,6 +1,6 @@
 -- Words, each way.
 use Prim.Native.Nat.{ℕ, _+_, _-_, _*_, _/_, _%_, _^_}
-use mathlib.Core.Bool.{Bool, false, not, _&&_, _||_}
+use mathlib.Core.Bool.{Bool, true, false, not, _&&_, _||_}
 use lib.Dec.{leb, eqb}
 use Rattle.convergents.specs.Choice.{if_then_else_}
 use Rattle.convergents.specs.Pairs.{Pair, pair, differs}
@@ -135,6 +135,12 @@ writeNumber f x =
     done (wordFor f (x .approximate) (x .value))
 
 -- ---- pairs and values
+
+unfoldable pub isNan : Value → Bool
+isNan (Fraction p) = false
+isNan (Zero s) = false
+isNan (Infinity s) = false
+isNan NotANumber = true
 
 -- The value of a pair in lowest terms: 0/1 is zero, 1/0 infinity.
 unfoldable pub valueOf : Bool → Pair → Value

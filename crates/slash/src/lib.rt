@@ -16,6 +16,7 @@ pub use format::Made;
 pub use number::Number;
 pub use number::Parts;
 pub use number::Value;
+pub use number::is_nan;
 pub use rounding::Rounded;
 pub use rounding::Rounding;
 pub use rounding::round;

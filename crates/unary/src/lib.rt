@@ -1,6 +1,10 @@
-// Operations on one word: the greatest common divisor of its parts, and its partial quotients.
+// Operations on one word: the unary operations, the greatest common divisor of its parts, and its
+// partial quotients.
 mod divisor;
 mod expansion;
+mod operation;
+mod signed;
 
 pub use divisor::gcd;
 pub use expansion::quotients;
+pub use operation::unary;

@@ -1,5 +1,5 @@
 -- `arithmetic::operand::as_operand` meets its contract. Assumes nothing.
-use Rattle.arithmetic.proofs.OperandLaws.{at-one}
+use Rattle.slash.proofs.AnswerLaws.{at-one}
 use Rattle.arithmetic.specs.Operands.{operandOf}
 use mathlib.Core.Path.{refl}
 use borrow.Author.Needs.{needs}

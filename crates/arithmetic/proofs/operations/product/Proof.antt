@@ -1,5 +1,6 @@
 -- `arithmetic::operations::product` meets its contract. Assumes nothing.
-use Rattle.arithmetic.proofs.OperandLaws.{at-both, small-finite}
+use Rattle.slash.proofs.AnswerLaws.{at-both}
+use Rattle.arithmetic.proofs.OperandLaws.{small-finite}
 use Rattle.slash.specs.declared.number.Value.the-variants.{Fraction}
 use Rattle.arithmetic.specs.Binary.{productOf}
 use mathlib.Core.Path.{ap}

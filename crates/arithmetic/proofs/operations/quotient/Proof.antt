@@ -1,5 +1,6 @@
 -- `arithmetic::operations::quotient` meets its contract. Assumes nothing.
-use Rattle.arithmetic.proofs.OperandLaws.{at-both, small-finite}
+use Rattle.slash.proofs.AnswerLaws.{at-both}
+use Rattle.arithmetic.proofs.OperandLaws.{small-finite}
 use Rattle.arithmetic.specs.Binary.{quotientOf}
 use mathlib.Core.Path.{refl}
 use borrow.Author.Needs.{needs}

@@ -1,5 +1,6 @@
 -- `arithmetic::ordering::compare_operands` meets its contract. Assumes nothing.
-use Rattle.arithmetic.proofs.OperandLaws.{at-both, small-finite, products, Products}
+use Rattle.slash.proofs.AnswerLaws.{at-both}
+use Rattle.arithmetic.proofs.OperandLaws.{small-finite, products, Products}
 use Rattle.arithmetic.specs.Comparison.{compareOf}
 use native.Mathlib.Omega.{arith}
 use mathlib.Core.Path.{refl, _∙_}

@@ -1,10 +1,10 @@
--- `arithmetic::operand::is_nan` meets its contract. Assumes nothing.
-use Rattle.arithmetic.proofs.OperandLaws.{at-one}
-use Rattle.arithmetic.specs.Operands.{isNan}
+-- `slash::number::is_nan` meets its contract. Assumes nothing.
+use Rattle.slash.proofs.AnswerLaws.{at-one}
+use Rattle.slash.specs.Words.{isNan}
 use mathlib.Core.Path.{refl}
 use borrow.Author.Needs.{needs}
-use Rattle.arithmetic.proofs.operand.is_nan.Statement.{statement}
-use Rattle.arithmetic.proofs.operand.is_nan.Tie as tie
+use Rattle.slash.proofs.number.is_nan.Statement.{statement}
+use Rattle.slash.proofs.number.is_nan.Tie as tie
 
 enum-told : tie.Need-enum-told
 enum-told c = search needs

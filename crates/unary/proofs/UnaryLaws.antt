@@ -1,0 +1,336 @@
+-- Laws of the unary operations. Assumes nothing.
+use mathlib.Core.Path.{_≡_, refl, sym, ap, ap₂, _∙_, subst, subst⁻¹}
+use mathlib.Core.Logic.{_⊎_, inl, inr}
+use mathlib.Core.Bool.{Bool, true, false, not, _&&_}
+use Prim.Native.Nat.{ℕ, suc, _+_, _-_, _*_, _/_, _%_, _^_, _≤_, _<_}
+use native.Mathlib.Omega.{arith}
+use native.Mathlib.Nat.{mod-lt, add-comm, one-mul, zero-add}
+use native.Mathlib.Decide.{ℕ-discrete}
+use lib.Dec.{eqb, leb}
+use lib.Pow.{pow-pos, pow-mono}
+use lib.IntN.{ℤ, pos, natAbs}
+use lib.Signed.{ltZ}
+use mir.Syntax.{w64}
+use mir.Val.{Fits, SFits}
+use borrow.Author.Tests.{eq-eqb, ne-eqb, lt-leb}
+use Rattle.convergents.specs.Choice.{if_then_else_}
+use Rattle.convergents.specs.Pairs.{pair, differs}
+use Rattle.convergents.specs.Rounding.{Limit, round}
+use Rattle.convergents.proofs.Optimal.{held-is}
+use Rattle.convergents.proofs.Theorem.{round-exact}
+use Rattle.convergents.proofs.Loop.{differs-not}
+use Rattle.slash.specs.Answers.{Outcome, stop, done, outcome, WhenDone}
+use Rattle.slash.specs.Bits.{bit, bitOf, bitCount}
+use Rattle.slash.specs.Formats.{known, ofKnown, widthOf, holds}
+use Rattle.slash.specs.Words.{numberOf, readWord, wordFor, isNan, isOverZero, writeNumber, BestWord}
+use Rattle.slash.specs.Canonical.{HeldParts, HeldValue}
+use Rattle.slash.proofs.AnswerLaws.{done-inj, then-stop, then-done}
+use Rattle.slash.proofs.BitLaws.{one-shl, pow-next, bit-true, bit-false}
+use Rattle.slash.proofs.FormatLaws.{of-known, width-range, format-limit, small-parts, fixed-holds, holds-both, holds-floating, floating-holds}
+use Rattle.slash.proofs.WriteLaws.{write-done}
+use Rattle.slash.proofs.Canonical.{read-known, read-held, read-says}
+use Rattle.slash.specs.declared.answer.Stop.{Stop}
+use Rattle.slash.specs.declared.answer.Answer.{Answer}
+use Rattle.slash.specs.declared.answer.Answer.the-variants as Answer
+use Rattle.slash.specs.declared.format.Format.{Format}
+use Rattle.slash.specs.declared.number.Parts.{Parts}
+use Rattle.slash.specs.declared.number.Value.{Value}
+use Rattle.slash.specs.declared.number.Value.the-variants.{Fraction, Zero, Infinity, NotANumber}
+use Rattle.slash.specs.declared.number.Number.{Number}
+use Rattle.unary.specs.Floor.{signedOf, floorBy, ceilingBy, aboveFloor}
+use Rattle.unary.specs.Steps.{SmallParts, SmallValue}
+use Rattle.unary.specs.Unary.{signBit, withHighest, newSign, signTouched, whole, signedNumerator, reciprocalParts, floorParts, ceilingParts, modParts, exactParts, exactZero, exactInfinity, exactUnary, ExactIn, isUnary, unaryResult, unaryWord}
+use Rattle.unary.proofs.SignedLaws.{read, same, small-fits, of-read, signed-size, test-is, floor-size, ceiling-size, above-lt, above-le}
+
+-- ---- the highest bit of a word
+
+module _ (h w : ℕ) (l : h < 64) where
+  pub power-some : 0 < (1 * 2 ^ h) % 2 ^ 64
+  power-some = subst⁻¹ (λ (p : ℕ). 0 < p) (one-shl h l) (pow-pos h)
+
+  pub set-fits : Fits w64 ((1 * 2 ^ h) % 2 ^ 64 + w % ((1 * 2 ^ h) % 2 ^ 64))
+  set-fits =
+      let m : w % 2 ^ h < 2 ^ h = mod-lt w (pow-pos h) in
+      let k : h + 1 ≤ 64 = omega arith in
+      let b : 2 ^ (h + 1) ≤ 2 ^ 64 = pow-mono k in
+      subst⁻¹ (λ (p : ℕ). Fits w64 (p + w % p)) (one-shl h l) (record { fits = omega (arith, pow-next h) })
+
+  pub is-set : (s : Bool) → s ≡ true → (1 * 2 ^ h) % 2 ^ 64 + w % ((1 * 2 ^ h) % 2 ^ 64) ≡ withHighest h s w
+  unfolding withHighest bitOf
+  is-set s e = rw (one-shl h l, e, one-mul) refl
+
+  pub not-set : (s : Bool) → s ≡ false → w % ((1 * 2 ^ h) % 2 ^ 64) ≡ withHighest h s w
+  unfolding withHighest bitOf
+  not-set s e = rw (one-shl h l, e) (omega arith)
+
+-- the width that a format tells
+module _ (f : Format) (known-it : known f ≡ true) (a : Answer) (told : outcome a ≡ ofKnown f (widthOf f)) where
+  says-done : outcome a ≡ done (widthOf f)
+  says-done = told ∙ sym (of-known f (widthOf f) known-it)
+
+  pub width-told : (n : ℕ) → a ≡ Answer.Done n → n ≡ widthOf f
+  width-told n e = done-inj (sym (ap outcome e) ∙ says-done)
+
+  pub width-never-stops : {X : Type 0} (s : Stop) → a ≡ Answer.Stopped s → X
+  width-never-stops s e =
+      let g : stop (s .number) (s .place) ≡ done (widthOf f) = sym (ap outcome e) ∙ says-done in
+      let z : _≡_ {A = ℕ} 0 1 = cc in
+      absurd (omega arith)
+
+  pub sign-place : (n : ℕ) → a ≡ Answer.Done n → (1 ≤ n) × (n - 1 < 64)
+  sign-place n e = let r = width-range f known-it in (omega (arith, width-told n e), omega (arith, width-told n e))
+
+  pub sign-touched : (n code w r : ℕ) → a ≡ Answer.Done n → r ≡ withHighest (n - 1) (newSign code (bit (n - 1) w)) w → done r ≡ done (signTouched f code w)
+  unfolding signTouched signBit
+  sign-touched n code w r e g =
+      ap done (g ∙ ap (λ (m : ℕ). withHighest (m - 1) (newSign code (bit (m - 1) w)) w) (width-told n e))
+
+-- ---- whole numbers
+
+pub whole-is : (n : ℤ) → natAbs n < 2 ^ 62 → (s : ℕ) → s ≡ natAbs (read n)
+    → record { negative = ltZ (read n) (pos 0); numerator = s; denominator = 1 } ≡ whole n
+unfolding whole
+whole-is n b s e =
+    let f : SFits w64 n = small-fits n b in
+    ap₂ (λ (c : Bool) (m : ℕ). record { negative = c; numerator = m; denominator = 1 }) (test-is n f) (e ∙ ap natAbs (same f))
+
+-- a whole number F of a fraction, as floor and ceiling are
+module _ (F : ℤ → ℕ → ℤ) (smaller : (n : ℤ) (d : ℕ) → natAbs (F n d) ≤ natAbs n) (p : Parts) (s : SmallParts p) (n q : ℤ) (nf : SFits w64 n) (qf : SFits w64 q)
+    (ne : n ≡ signedOf (p .negative) (p .numerator)) (qe : q ≡ F (read n) (p .denominator)) where
+  q-is : q ≡ F (signedNumerator p) (p .denominator)
+  unfolding signedNumerator
+  q-is = qe ∙ ap (λ (z : ℤ). F z (p .denominator)) (same nf ∙ ne)
+
+  pub whole-small : natAbs (read q) < 2 ^ 62
+  unfolding signedNumerator
+  whole-small =
+      of-read (λ z. natAbs z < 2 ^ 62) qf
+      (omega (arith, ap natAbs q-is, smaller (signedOf (p .negative) (p .numerator)) (p .denominator), signed-size (p .negative) (p .numerator), s .small-numerator))
+
+  pub whole-returns : (r : Parts) → r ≡ whole (read q) → r ≡ whole (F (signedNumerator p) (p .denominator))
+  whole-returns r e = e ∙ ap whole (same qf ∙ q-is)
+
+module _ (p : Parts) (s : SmallParts p) (n : ℤ) (nf : SFits w64 n) (ne : n ≡ signedOf (p .negative) (p .numerator)) where
+  pub numerator-small : natAbs (read n) < 2 ^ 62
+  numerator-small = of-read (λ z. natAbs z < 2 ^ 62) nf (omega (arith, ap natAbs ne, signed-size (p .negative) (p .numerator), s .small-numerator))
+
+  pub mod-returns : (m : ℕ) → m ≡ aboveFloor (read n) (p .denominator) → record { negative = false; numerator = m; denominator = p .denominator } ≡ modParts p
+  unfolding modParts signedNumerator
+  mod-returns m e =
+      ap (λ (k : ℕ). record { negative = false; numerator = k; denominator = p .denominator }) (e ∙ ap (λ (z : ℤ). aboveFloor z (p .denominator)) (same nf ∙ ne))
+
+-- ---- by code
+
+module _ (code : ℕ) (p : Parts) where
+  pub parts-reciprocal : code ≡ 3 → reciprocalParts p ≡ exactParts code p
+  unfolding exactParts
+  parts-reciprocal e = rw (eq-eqb _ _ e) refl
+
+  module _ (n3 : code ≡ 3 → ⊥) where
+    pub parts-floor : code ≡ 4 → floorParts p ≡ exactParts code p
+    unfolding exactParts
+    parts-floor e = rw (ne-eqb _ _ n3, eq-eqb _ _ e) refl
+
+    module _ (n4 : code ≡ 4 → ⊥) where
+      pub parts-ceiling : code ≡ 5 → ceilingParts p ≡ exactParts code p
+      unfolding exactParts
+      parts-ceiling e = rw (ne-eqb _ _ n3, ne-eqb _ _ n4, eq-eqb _ _ e) refl
+
+      module _ (n5 : code ≡ 5 → ⊥) where
+        pub parts-mod : code ≡ 6 → modParts p ≡ exactParts code p
+        unfolding exactParts
+        parts-mod e = rw (ne-eqb _ _ n3, ne-eqb _ _ n4, ne-eqb _ _ n5, eq-eqb _ _ e) refl
+
+        pub parts-same : (code ≡ 6 → ⊥) → p ≡ exactParts code p
+        unfolding exactParts
+        parts-same n6 = rw (ne-eqb _ _ n3, ne-eqb _ _ n4, ne-eqb _ _ n5, ne-eqb _ _ n6) refl
+
+  -- what holds of each way holds of the result
+  by-code : (P : Parts → Type 0) → P (reciprocalParts p) → P (floorParts p) → P (ceilingParts p) → (code ≡ 6 → P (modParts p)) → P p → P (exactParts code p)
+  by-code P a b c d e = go (ℕ-discrete code 3) (ℕ-discrete code 4) (ℕ-discrete code 5) (ℕ-discrete code 6)
+    where
+      go : Dec (code ≡ 3) → Dec (code ≡ 4) → Dec (code ≡ 5) → Dec (code ≡ 6) → P (exactParts code p)
+      go (yes i) j k l = subst P (parts-reciprocal i) a
+      go (no i) (yes j) k l = subst P (parts-floor i j) b
+      go (no i) (no j) (yes k) l = subst P (parts-ceiling i j k) c
+      go (no i) (no j) (no k) (yes l) = subst P (parts-mod i j k l) (d l)
+      go (no i) (no j) (no k) (no l) = subst P (parts-same i j k l) e
+
+module _ (code : ℕ) (s : Bool) where
+  pub zero-reciprocal : code ≡ 3 → Infinity s ≡ exactZero code s
+  unfolding exactZero
+  zero-reciprocal e = rw (eq-eqb _ _ e) refl
+
+  pub zero-same : (code ≡ 3 → ⊥) → code ≡ 7 → Zero s ≡ exactZero code s
+  unfolding exactZero
+  zero-same n e = rw (ne-eqb _ _ n, eq-eqb _ _ e) refl
+
+  pub zero-plain : (code ≡ 3 → ⊥) → (code ≡ 7 → ⊥) → Zero false ≡ exactZero code s
+  unfolding exactZero
+  zero-plain n m = rw (ne-eqb _ _ n, ne-eqb _ _ m) refl
+
+  pub infinity-reciprocal : code ≡ 3 → Zero s ≡ exactInfinity code s
+  unfolding exactInfinity
+  infinity-reciprocal e = rw (eq-eqb _ _ e) refl
+
+  pub infinity-mod : (code ≡ 3 → ⊥) → code ≡ 6 → NotANumber ≡ exactInfinity code s
+  unfolding exactInfinity
+  infinity-mod n e = rw (ne-eqb _ _ n, eq-eqb _ _ e) refl
+
+  pub infinity-same : (code ≡ 3 → ⊥) → (code ≡ 6 → ⊥) → Infinity s ≡ exactInfinity code s
+  unfolding exactInfinity
+  infinity-same n m = rw (ne-eqb _ _ n, ne-eqb _ _ m) refl
+
+  -- what holds of zeros, infinities and not-a-number holds of either
+  by-case : (P : Value → Type 0) → ((t : Bool) → P (Zero t)) → ((t : Bool) → P (Infinity t)) → P NotANumber → P (exactZero code s) × P (exactInfinity code s)
+  by-case P z i n = (
+    zero-case (ℕ-discrete code 3) (ℕ-discrete code 7),
+    infinity-case (ℕ-discrete code 3) (ℕ-discrete code 6),
+  )
+    where
+      zero-case : Dec (code ≡ 3) → Dec (code ≡ 7) → P (exactZero code s)
+      zero-case (yes a) b = subst P (zero-reciprocal a) (i s)
+      zero-case (no a) (yes b) = subst P (zero-same a b) (z s)
+      zero-case (no a) (no b) = subst P (zero-plain a b) (z false)
+
+      infinity-case : Dec (code ≡ 3) → Dec (code ≡ 6) → P (exactInfinity code s)
+      infinity-case (yes a) b = subst P (infinity-reciprocal a) (z s)
+      infinity-case (no a) (yes b) = subst P (infinity-mod a b) n
+      infinity-case (no a) (no b) = subst P (infinity-same a b) (i s)
+
+-- ---- what was read is small, and its exact result is not over 0
+
+pub held-small : (f : Format) → known f ≡ true → (v : Value) → HeldValue f v → SmallValue v
+unfolding HeldValue SmallValue
+held-small f h (Fraction p) q =
+    let b = small-parts f h (p .numerator) (p .denominator) (q .holds-it) in
+    record { some-denominator = q .some-denominator; small-denominator = omega arith; small-numerator = omega arith }
+held-small f h (Zero s) q = tt
+held-small f h (Infinity s) q = tt
+held-small f h NotANumber q = tt
+
+pub small-fraction : {v : Value} {p : Parts} → v ≡ Fraction p → SmallValue v → SmallParts p
+unfolding SmallValue
+small-fraction e s = subst SmallValue e s
+
+over-exact : (f : Format) (code : ℕ) (v : Value) → HeldValue f v → isOverZero (exactUnary code v) ≡ false
+unfolding HeldValue isOverZero exactUnary reciprocalParts floorParts whole ceilingParts modParts
+over-exact f code (Fraction p) q =
+    let some : (m : ℕ) → 1 ≤ m → eqb m 0 ≡ false = λ m l. let z : m ≡ 0 → ⊥ = λ e. omega arith in ne-eqb _ _ z in
+    by-code code p (λ r. eqb (r .denominator) 0 ≡ false) (some _ (q .some-numerator)) refl refl (λ _. some _ (q .some-denominator)) (some _ (q .some-denominator))
+over-exact f code (Zero s) q = by-case code s (λ v. isOverZero v ≡ false) (λ t. refl) (λ t. refl) refl .0
+over-exact f code (Infinity s) q = by-case code s (λ v. isOverZero v ≡ false) (λ t. refl) (λ t. refl) refl .1
+over-exact f code NotANumber q = refl
+
+-- ---- what a code makes of a word
+
+module _ (f : Format) (h : known f ≡ true) (code w : ℕ) (x : Number) where
+  pub result-touched : (o : Outcome ℕ) → (leb code 2 && not (isNan (x .value))) ≡ true → o ≡ done (signTouched f code w)
+      → (o ≡ done (unaryResult f code w x)) × (3 ≤ code → WhenDone o (λ v. BestWord f (exactUnary code (x .value)) v))
+  unfolding unaryResult
+  result-touched o t e = (
+    e ∙ rw t refl,
+    λ l. let g : leb code 2 ≡ false = lt-leb _ _ l in let z : _≡_ {A = ℕ} 0 1 = cc in absurd (omega arith),
+  )
+
+  pub result-written : HeldValue f (x .value) → (o : Outcome ℕ) (v : Value) → (leb code 2 && not (isNan (x .value))) ≡ false → v ≡ exactUnary code (x .value)
+      → (o ≡ writeNumber f (record { value = v; approximate = x .approximate })) × WhenDone o (λ u. BestWord f v u)
+      → (o ≡ done (unaryResult f code w x)) × (3 ≤ code → WhenDone o (λ u. BestWord f (exactUnary code (x .value)) u))
+  unfolding unaryResult
+  result-written q o v t e r =
+      let y : Value = exactUnary code (x .value) in
+      let m : Bool = x .approximate in (
+        r .0 ∙ ap (λ (u : Value). writeNumber f (record { value = u; approximate = m })) e
+            ∙ sym (write-done f (record { value = y; approximate = m }) h (over-exact f code (x .value) q)) ∙ rw t refl,
+        λ l. subst (λ (u : Value). WhenDone o (λ z. BestWord f u z)) e (r .1),
+      )
+
+module _ (f : Format) (code w : ℕ) where
+  pub unary-format : known f ≡ false → stop 1 0 ≡ unaryWord f code w
+  unfolding unaryWord
+  unary-format h = rw h refl
+
+  module _ (h : known f ≡ true) where
+    pub unary-code : isUnary code ≡ false → stop 2 0 ≡ unaryWord f code w
+    unfolding unaryWord
+    unary-code i = rw (h, i) refl
+
+    module _ (i : isUnary code ≡ true) where
+      pub unary-stop : {n p : ℕ} → stop n p ≡ readWord f w → stop n p ≡ unaryWord f code w
+      unfolding unaryWord
+      unary-stop e = rw (h, i) (then-stop _ e)
+
+      pub unary-done : (x : Number) → done x ≡ readWord f w → (o : Outcome ℕ)
+          → (o ≡ done (unaryResult f code w x)) × (3 ≤ code → WhenDone o (λ v. BestWord f (exactUnary code (x .value)) v))
+          → (o ≡ unaryWord f code w) × (3 ≤ code → WhenDone o (λ v. BestWord f (exactUnary code (numberOf f w .value)) v))
+      unfolding unaryWord
+      unary-done x e o r = (
+        rw (h, i) (then-done _ e (r .0)),
+        λ l. subst (λ (y : Number). WhenDone o (λ v. BestWord f (exactUnary code (y .value)) v)) (sym (read-says f h w x (sym e) .number)) (r .1 l),
+      )
+
+-- ---- what always fits
+
+module _ (f : Format) (h : known f ≡ true) where
+  -- a held pair is rounded to its own value
+  exact-held : (n d : ℕ) → 1 ≤ d → holds f n d ≡ true → differs n d (round (holds f) n d) ≡ false
+  exact-held n d l e =
+      sym (differs-not n d (round (holds f) n d) (round-exact (holds f) (format-limit f h) n d l (pair n d) (held-is (holds f) n d l ∙ e) (omega arith)))
+
+  -- a format that holds n/d holds d/n
+  holds-turned : (n d : ℕ) → holds f n d ≡ true → holds f d n ≡ true
+  holds-turned n d e = go (ℕ-discrete (f .kind) 1)
+    where
+      go : Dec (f .kind ≡ 1) → holds f d n ≡ true
+      go (yes k) = let b = fixed-holds f n d k e in holds-both f d n k (omega arith) (omega arith)
+      go (no k) = sym (holds-floating f d n k (bitCount d) (bitCount n) refl refl) ∙ ap (λ (m : ℕ). leb m (f .k)) (add-comm (bitCount d) (bitCount n)) ∙ holds-floating f n d k (bitCount n) (bitCount d) refl refl ∙ e
+
+  module _ (p : Parts) (q : HeldParts f p) where
+    smaller-held : (m c : ℕ) → m ≤ p .numerator → 1 ≤ c → c ≤ p .denominator → differs m c (round (holds f) m c) ≡ false
+    smaller-held m c a l b = exact-held m c l (format-limit f h .downward (p .numerator) (p .denominator) m c (q .holds-it) a l b)
+
+    -- so are whole numbers of no larger size
+    whole-held : (z : ℤ) → natAbs z ≤ natAbs (signedNumerator p) → ExactIn f (Fraction (whole z))
+    unfolding ExactIn whole signedNumerator
+    whole-held z l = smaller-held (natAbs z) 1 (omega (arith, signed-size (p .negative) (p .numerator))) (omega arith) (q .some-denominator)
+
+    -- mod 1 of what isn't negative, or in a fixed format
+    mod-exact : (p .negative ≡ false) ⊎ (f .kind ≡ 1) → ExactIn f (Fraction (modParts p))
+    unfolding ExactIn modParts signedNumerator signedOf
+    mod-exact (inl e) =
+        let l : aboveFloor (signedOf (p .negative) (p .numerator)) (p .denominator) ≤ p .numerator =
+        subst⁻¹ (λ (b : Bool). aboveFloor (signedOf b (p .numerator)) (p .denominator) ≤ p .numerator) e (above-le (p .numerator) (p .denominator))
+        in
+        smaller-held _ (p .denominator) l (q .some-denominator) (omega arith)
+    mod-exact (inr k) =
+        let n : ℤ = signedOf (p .negative) (p .numerator) in
+        let b = fixed-holds f (p .numerator) (p .denominator) k (q .holds-it) in
+        let l : aboveFloor n (p .denominator) < p .denominator = above-lt n (p .denominator) (q .some-denominator) in
+        exact-held (aboveFloor n (p .denominator)) (p .denominator) (q .some-denominator) (holds-both f _ _ k (omega arith) (omega arith))
+
+    parts-exact : (code : ℕ) → (code ≡ 6 → ExactIn f (Fraction (modParts p))) → ExactIn f (Fraction (exactParts code p))
+    unfolding ExactIn floorParts ceilingParts reciprocalParts
+    parts-exact code m =
+        by-code code p (λ r. ExactIn f (Fraction r)) (exact-held (p .denominator) (p .numerator) (q .some-numerator) (holds-turned (p .numerator) (p .denominator) (q .holds-it)))
+        (whole-held (floorBy (signedNumerator p) (p .denominator)) (floor-size (signedNumerator p) (p .denominator)))
+        (whole-held (ceilingBy (signedNumerator p) (p .denominator)) (ceiling-size (signedNumerator p) (p .denominator))) m
+        (exact-held (p .numerator) (p .denominator) (q .some-denominator) (q .holds-it))
+
+  value-exact : (code : ℕ) → (code ≡ 6 → ⊥) → (v : Value) → HeldValue f v → ExactIn f (exactUnary code v)
+  unfolding HeldValue exactUnary ExactIn
+  value-exact code n (Fraction p) q = parts-exact p q code (λ e. absurd (n e))
+  value-exact code n (Zero s) q = by-case code s (ExactIn f) (λ t. tt) (λ t. tt) tt .0
+  value-exact code n (Infinity s) q = by-case code s (ExactIn f) (λ t. tt) (λ t. tt) tt .1
+  value-exact code n NotANumber q = tt
+
+-- Reciprocal, floor, ceiling and normalise always fit.
+pub unary-exact : (f : Format) (code w : ℕ) (x : Number) → readWord f w ≡ done x → (code ≡ 6 → ⊥) → ExactIn f (exactUnary code (x .value))
+unary-exact f code w x r n = let h = read-known f w x r in value-exact f h code n (x .value) (read-held f h w x r)
+
+-- Mod 1 fits in every fixed format, and of what isn't negative.
+pub mod-1-exact : (f : Format) (w : ℕ) (x : Number) (p : Parts) → readWord f w ≡ done x → x .value ≡ Fraction p → (p .negative ≡ false) ⊎ (f .kind ≡ 1)
+    → ExactIn f (exactUnary 6 (x .value))
+unfolding HeldValue exactUnary exactParts
+mod-1-exact f w x p r e c =
+    let h = read-known f w x r in
+    subst⁻¹ (λ (v : Value). ExactIn f (exactUnary 6 v)) e (mod-exact f h p (subst (HeldValue f) e (read-held f h w x r)) c)

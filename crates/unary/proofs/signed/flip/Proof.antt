@@ -1,0 +1,13 @@
+-- `unary::signed::flip` meets its contract. Assumes nothing.
+use Rattle.unary.proofs.SignedLaws.{flip-fits, flip-returns}
+use Rattle.unary.proofs.signed.flip.Statement.{statement}
+use Rattle.unary.proofs.signed.flip.Tie as tie
+
+sub-result : tie.Need-sub-result
+sub-result c = flip-fits _ (c .fits .n)
+
+returns : tie.Need-returns
+returns c = flip-returns _ (c .fits .n)
+
+pub flip-spec : {M : Type 1} → statement M
+flip-spec = tie.close (tie.spec sub-result returns)

@@ -1,0 +1,192 @@
+// The unary operations: negate, absolute value, reciprocal, floor, ceiling, mod 1, normalise.
+ghost use mathlib.Core.Path.{_≡_};
+ghost use mathlib.Core.Bool.{true};
+ghost use Prim.Native.Nat.{_≤_, _<_, _^_};
+ghost use lib.IntN.{natAbs};
+ghost use Rattle.slash.specs.Answers.{outcome, done, WhenDone};
+ghost use Rattle.slash.specs.Bits.{bit};
+ghost use Rattle.slash.specs.Canonical.{HeldValue};
+ghost use Rattle.slash.specs.Formats.{known};
+ghost use Rattle.slash.specs.Words.{BestWord, numberOf};
+ghost use Rattle.unary.specs.Steps.{SmallParts, SmallValue};
+ghost use Rattle.unary.specs.Unary.{withHighest, newSign, signTouched, whole, floorParts, ceilingParts, modParts, exactParts, exactZero, exactInfinity, exactUnary, isUnary, unaryResult, unaryWord};
+use crate::signed;
+use slash::Answer;
+use slash::Format;
+use slash::Number;
+use slash::Parts;
+use slash::Reading;
+use slash::Stop;
+use slash::Value;
+
+// w with its highest bit set or not, and every other bit as it was.
+fn with_highest(highest: u64, set: bool, w: u64) -> u64
+    requires { ⌜ highest < 64 ⌝ }
+    ensures { λ r. ⌜ r ≡ withHighest highest set w ⌝ }
+{
+    let power = 1 << highest;
+    let rest = w % power;
+    if set { power + rest } else { rest }
+}
+
+fn touch_highest(highest: u64, code: u64, w: u64) -> u64
+    requires { ⌜ highest < 64 ⌝ }
+    ensures { λ r. ⌜ r ≡ withHighest highest (newSign code (bit highest w)) w ⌝ }
+{
+    let negative = (w >> highest) % 2 == 1;
+    with_highest(highest, (code == 1) & !negative, w)
+}
+
+// Code 1 turns the sign of a word, code 2 takes it off.
+fn touch_sign(f: Format, code: u64, w: u64) -> Answer
+    requires { ⌜ known f ≡ true ⌝ }
+    ensures { λ r. ⌜ outcome r ≡ done (signTouched f code w) ⌝ }
+{
+    match f.width() {
+        Answer::Stopped(s) => Answer::Stopped(s),
+        Answer::Done(width) => Answer::Done(touch_highest(width - 1, code, w)),
+    }
+}
+
+fn whole_parts(n: i64) -> Parts
+    requires { ⌜ natAbs n < 2 ^ 62 ⌝ }
+    ensures { λ r. ⌜ r ≡ whole n ⌝ }
+{
+    Parts {
+        negative: n < 0,
+        numerator: signed::size(n),
+        denominator: 1,
+    }
+}
+
+fn floor_parts(p: Parts) -> Parts
+    requires { ⌜ SmallParts p ⌝ }
+    ensures { λ r. ⌜ r ≡ floorParts p ⌝ }
+{
+    let n = signed::to_signed(p.negative, p.numerator);
+    whole_parts(signed::floor(n, p.denominator))
+}
+
+fn ceiling_parts(p: Parts) -> Parts
+    requires { ⌜ SmallParts p ⌝ }
+    ensures { λ r. ⌜ r ≡ ceilingParts p ⌝ }
+{
+    let n = signed::to_signed(p.negative, p.numerator);
+    whole_parts(signed::ceiling(n, p.denominator))
+}
+
+fn mod_parts(p: Parts) -> Parts
+    requires { ⌜ SmallParts p ⌝ }
+    ensures { λ r. ⌜ r ≡ modParts p ⌝ }
+{
+    let n = signed::to_signed(p.negative, p.numerator);
+    Parts {
+        negative: false,
+        numerator: signed::above_floor(n, p.denominator),
+        denominator: p.denominator,
+    }
+}
+
+// The exact result of a fraction, by code; normalising keeps its value.
+fn exact_parts(code: u64, p: Parts) -> Parts
+    requires { ⌜ SmallParts p ⌝ }
+    ensures { λ r. ⌜ r ≡ exactParts code p ⌝ }
+{
+    if code == 3 {
+        return Parts {
+            negative: p.negative,
+            numerator: p.denominator,
+            denominator: p.numerator,
+        };
+    }
+    if code == 4 {
+        return floor_parts(p);
+    }
+    if code == 5 {
+        return ceiling_parts(p);
+    }
+    if code == 6 {
+        return mod_parts(p);
+    }
+    p
+}
+
+fn exact_zero(code: u64, negative: bool) -> Value
+    ensures { λ r. ⌜ r ≡ exactZero code negative ⌝ }
+{
+    if code == 3 {
+        return Value::Infinity(negative);
+    }
+    if code == 7 {
+        return Value::Zero(negative);
+    }
+    Value::Zero(false)
+}
+
+fn exact_infinity(code: u64, negative: bool) -> Value
+    ensures { λ r. ⌜ r ≡ exactInfinity code negative ⌝ }
+{
+    if code == 3 {
+        return Value::Zero(negative);
+    }
+    if code == 6 {
+        return Value::NotANumber;
+    }
+    Value::Infinity(negative)
+}
+
+fn exact_value(code: u64, v: Value) -> Value
+    requires { ⌜ SmallValue v ⌝ }
+    ensures { λ r. ⌜ r ≡ exactUnary code v ⌝ }
+{
+    match v {
+        Value::Fraction(p) => Value::Fraction(exact_parts(code, p)),
+        Value::Zero(s) => exact_zero(code, s),
+        Value::Infinity(s) => exact_infinity(code, s),
+        Value::NotANumber => Value::NotANumber,
+    }
+}
+
+fn is_unary(code: u64) -> bool
+    ensures { λ r. ⌜ r ≡ isUnary code ⌝ }
+{
+    (1 <= code) & (code <= 7)
+}
+
+// What a code makes of w, which says x.
+fn result(f: Format, code: u64, w: u64, x: Number) -> Answer
+    requires { ⌜ (known f ≡ true) × HeldValue f (x .value) ⌝ }
+    ensures written { λ r. ⌜ outcome r ≡ done (unaryResult f code w x) ⌝ }
+    ensures best { λ r. ⌜ (3 ≤ code → WhenDone (outcome r) (λ v. BestWord f (exactUnary code (x .value)) v)) ⌝ }
+{
+    let v = x.value;
+    if (code <= 2) & !slash::is_nan(v) {
+        return touch_sign(f, code, w);
+    }
+    let exact = exact_value(code, v);
+    slash::write(
+        f,
+        Number {
+            value: exact,
+            approximate: x.approximate,
+        },
+    )
+}
+
+// Code 1 negates w, 2 takes its absolute value, 3 its reciprocal, 4 its floor, 5 its ceiling, 6 is
+// mod 1, 7 normalises.
+pub fn unary(f: Format, code: u64, w: u64) -> Answer
+    ensures written { λ r. ⌜ outcome r ≡ unaryWord f code w ⌝ }
+    ensures best { λ r. ⌜ (3 ≤ code → WhenDone (outcome r) (λ v. BestWord f (exactUnary code (numberOf f w .value)) v)) ⌝ }
+{
+    if !f.is_known() {
+        return Answer::Stopped(Stop::plain(Stop::FORMAT));
+    }
+    if !is_unary(code) {
+        return Answer::Stopped(Stop::plain(Stop::CODE));
+    }
+    match slash::read(f, w) {
+        Reading::Stopped(s) => Answer::Stopped(s),
+        Reading::Done(x) => result(f, code, w, x),
+    }
+}
