@@ -2,6 +2,7 @@
 
 import operations
 import slash
+import vectors
 
 # Formats, words and rounding.
 
@@ -175,6 +176,44 @@ def answer_quotients(kind, k, length, word):
     return " ".join([first, *map(str, lent)])
 
 
+# Vectors. The words come after all lengths: the operands', then the lent result's.
+
+
+def answer_binary_vector(kind, k, code, left_length, right_length, out_length, *words):
+    """x: a binary code on two vectors."""
+    left, right, out = parted(words, left_length, right_length, out_length)
+    return vector_text(out, vectors.binary_each, kind, k, code, left, right)
+
+
+def answer_unary_vector(kind, k, code, length, out_length, *words):
+    """y: a unary code on a vector."""
+    operand, out = parted(words, length, out_length)
+    return vector_text(out, vectors.unary_each, kind, k, code, operand)
+
+
+def answer_convert_vector(kind, k, to_kind, to_k, length, out_length, *words):
+    """z: a conversion of a vector."""
+    operand, out = parted(words, length, out_length)
+    return vector_text(out, vectors.convert_each, kind, k, to_kind, to_k, operand)
+
+
+def parted(words, *lengths):
+    """The words as vectors of these lengths, one after the other."""
+    assert len(words) == sum(lengths)
+    rest = iter(words)
+    return [[next(rest) for _ in range(length)] for length in lengths]
+
+
+def vector_text(out, operation, *arguments):
+    """Whether the operation was done or stopped, and the lent result after it."""
+    try:
+        operation(*arguments, out)
+        first = "done"
+    except slash.Stop as stop:
+        first = stop_text(stop)
+    return " ".join([first, *("%x" % word for word in out)])
+
+
 # The dispatcher.
 
 
@@ -213,6 +252,9 @@ ANSWERS = {
     "g": answer_divisor,
     "G": answer_divisor_each,
     "q": answer_quotients,
+    "x": answer_binary_vector,
+    "y": answer_unary_vector,
+    "z": answer_convert_vector,
 }
 
 

@@ -3,10 +3,13 @@
 import random
 from functools import lru_cache
 
+import night
 import operations
 import slash
-from answers import answer
+import vectors
+from answers import LENT, answer
 from cases_common import chosen, small_formats
+from cases_night import EXAMPLE, EXAMPLE_LISTING
 from slash import FIXED, FRACTION, ZERO
 
 # What the papers print: document 01's Edges, with 004's convergents and widths.
@@ -93,6 +96,40 @@ RULE_ANSWERS = [
     ("o 1 3 0 0", "unordered"),
     ("g 1 3 34", "2"),
     ("g 1 3 7", "0"),
+    # Vectors: 13 + 15 and 15 + 13 in hexadecimal, then the stops in their order.
+    ("x 1 3 1 2 2 2 19 21 21 19 7 8", "done 1a 1a"),
+    ("x 1 3 1 0 0 0", "done"),
+    ("x 3 3 0 2 1 1 256 256 256 7", "stop 1 0 7"),
+    ("x 1 3 0 2 1 1 256 256 256 7", "stop 2 0 7"),
+    ("x 1 3 0 0 0 0", "stop 2 0"),
+    ("x 1 3 1 1 1 2 256 256 7 8", "stop 3 0 7 8"),
+    ("x 1 3 1 2 2 2 1 1 1 256 7 8", "stop 4 1 7 8"),
+    # Floating k = 3: width 6; slash position 2, words 8 to 11, is undefined.
+    ("x 2 3 1 2 2 2 8 0 64 0 7 8", "stop 5 0 7 8"),
+    ("x 2 3 1 2 2 2 0 8 64 0 7 8", "stop 4 0 7 8"),
+    ("x 2 3 1 2 2 2 0 8 0 64 7 8", "stop 5 1 7 8"),
+    ("x 2 3 1 1 1 1 72 8 7", "stop 4 0 7"),
+    ("y 1 3 4 2 2 163 16 7 8", "done 91 10"),
+    ("y 1 3 8 1 2 163 7 8", "stop 2 0 7 8"),
+    ("y 1 3 4 2 1 163 16 7", "stop 3 0 7"),
+    ("z 1 5 1 2 2 2 407 1 7 8", "done f 1"),
+    ("z 1 5 1 32 2 1 407 1 7", "stop 1 0 7"),
+    ("z 1 3 1 2 2 2 1 256 7 8", "stop 4 1 7 8"),
+]
+
+# Recordings and their listings, worked out by hand from document 01's rules.
+NIGHT_LISTINGS = [
+    (EXAMPLE, EXAMPLE_LISTING),
+    (b"", b"refused\t12\t1\n"),
+    (b"\n", b"refused\t10\t1\n"),
+    (b"0\t1\t2", b"refused\t9\t1\n"),
+    (b"0\t1\tx\n", b"refused\t11\t1\n"),
+    (b"0\t1\t16\nx\ty\n", b"1\t00010010\t1/16\t6.3\nrefused\t10\t2\n"),
+    (b"5\t5\t6\n", b"1\t00000001\t0/1\t0.0\nall\t00000001\t0/1\t0.0\n"),
+    (b"5\t6\t6\n", b"1\t00010001\t1/1\t100.0\nall\t00010001\t1/1\t100.0\n"),
+    (b"5\t7\t6\n", b"1\t00000000\t-\t-\nall\t00000000\t-\t-\n"),
+    # 1/32768 is 0/1 and marked: bit 15.
+    (b"0\t1\t32768\n", b"1\t00008001\t0/1\t0.0\nall\t00008001\t0/1\t0.0\n"),
 ]
 
 
@@ -104,6 +141,8 @@ def check_all():
     check_demand_3()
     check_unary()
     check_quotients()
+    check_vectors()
+    check_night()
 
 
 def check_answers():
@@ -292,3 +331,38 @@ def check_quotients():
             assert slash.truncated_value(quotients) == operations.size_of(value)
             assert len(quotients) <= 2 * form.k and min(quotients[1:], default=1) >= 1
             assert len(quotients) == 1 or quotients[-1] >= 2, (form, word)
+
+
+# Vectors.
+
+
+def check_vectors():
+    """Asserts that a vector form gives at each place what its words alone give."""
+    rng = random.Random(2)
+    for form in small_formats(3, 5):
+        words = [word for word, _ in finite_words(form)]
+        left, right = ([chosen(rng, words) for _ in range(9)] for _ in range(2))
+        out = [LENT] * 9
+        for code in operations.BINARY:
+            vectors.binary_each(*form, code, left, right, out)
+            for place in range(9):
+                request = "b %d %d %d %d %d" % (*form, code, left[place], right[place])
+                assert answer(request) == "%x" % out[place], (form, request)
+        for code in range(1, 8):
+            vectors.unary_each(*form, code, left, out)
+            for place in range(9):
+                request = "u %d %d %d %d" % (*form, code, left[place])
+                assert answer(request) == "%x" % out[place], (form, request)
+
+
+# A night.
+
+
+def check_night():
+    """Asserts the listings that the paper prints, and those worked out from it."""
+    for recording, expected in NIGHT_LISTINGS:
+        assert night.listing(recording) == expected, (recording, expected)
+    most = night.listing(b"0\t1\t2\n" * 65536)
+    assert most.count(b"\n") == 65537 and most.endswith(b"all\t00010002\t1/2\t50.0\n")
+    beyond = night.listing(b"0\t1\t2\n" * 65536 + b"x")
+    assert beyond.count(b"\n") == 65537 and beyond.endswith(b"\nrefused\t8\t65537\n")

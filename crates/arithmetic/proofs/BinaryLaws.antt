@@ -13,7 +13,7 @@ use Rattle.slash.specs.Formats.{known}
 use Rattle.slash.specs.Words.{numberOf, readWord, isOverZero, writeNumber, BestWord, isNan}
 use Rattle.slash.proofs.AnswerLaws.{then-stop, then-done}
 use Rattle.slash.proofs.RoundTrip.{Says}
-use Rattle.slash.proofs.WriteLaws.{write-done}
+use Rattle.slash.proofs.WriteLaws.{write-done, word-best}
 use Rattle.slash.proofs.Canonical.{read-says}
 use Rattle.slash.specs.declared.format.Format.{Format}
 use Rattle.slash.specs.declared.number.Parts.{Parts}
@@ -24,7 +24,7 @@ use Rattle.arithmetic.specs.Operands.{operandOf, signOf, differ, turned,
 use Rattle.arithmetic.specs.Binary.{sumSize, sumSign, sumParts, sumOf, timesInfinity, productParts, productOf, dividedBy, quotientOf, exactOf, exactValue, isBinary, combined, combinedWords, binaryWord}
 use Rattle.arithmetic.specs.declared.operand.Operand.{Operand}
 use Rattle.arithmetic.specs.declared.operand.Operand.the-variants.{Finite, Infinite}
-use Rattle.arithmetic.proofs.OperandLaws.{small-turned}
+use Rattle.arithmetic.proofs.OperandLaws.{small-turned, read-small}
 
 -- ---- the sum
 
@@ -223,3 +223,30 @@ module _ (f : Format) (code left right : ℕ) (h : known f ≡ true) where
 pub binary-unknown : (f : Format) (code left right : ℕ) → known f ≡ false → stop 1 0 ≡ binaryWord f code left right
 unfolding binaryWord
 binary-unknown f code left right h = rw h refl
+
+combined-best : (f : Format) (code : ℕ) (x y : Number) → known f ≡ true → Small (operandOf (x .value)) → Small (operandOf (y .value))
+    → BestWord f (exactValue code (x .value) (y .value)) (combined f code x y)
+unfolding combined
+combined-best f code x y h s t = word-best f h (x .approximate || y .approximate) (exactValue code (x .value) (y .value)) (over-exact code (x .value) (y .value) s t)
+
+-- Demand 3, of every word that the four operations make.
+module _ (f : Format) (code left right : ℕ) where
+  abbrev BestHere : ℕ → Type 0
+  BestHere w = BestWord f (exactValue code (numberOf f left .value) (numberOf f right .value)) w
+
+  pub binary-best : WhenDone (binaryWord f code left right) BestHere
+  binary-best = go (known f) refl (isBinary code) refl (readWord f left) refl (readWord f right) refl
+    where
+      here : (o : Outcome ℕ) → o ≡ binaryWord f code left right → WhenDone o BestHere → WhenDone (binaryWord f code left right) BestHere
+      here o e b = subst (λ (p : Outcome ℕ). WhenDone p BestHere) e b
+
+      go : (k : Bool) → known f ≡ k → (b : Bool) → isBinary code ≡ b → (o : Outcome Number) → readWord f left ≡ o → (p : Outcome Number) → readWord f right ≡ p
+          → WhenDone (binaryWord f code left right) BestHere
+      go false h b i o oe p pe = here _ (binary-unknown f code left right h) tt
+      go true h false i o oe p pe = here _ (binary-code f code left right h i) tt
+      go true h true i (stop n q) oe p pe = here _ (binary-done f code left right h i (combine-left f code left right h (sym oe))) tt
+      go true h true i (done x) oe (stop n q) pe = here _ (binary-done f code left right h i (combine-right f code left right h x (sym oe) (sym pe))) tt
+      go true h true i (done x) oe (done y) pe =
+          let b = combined-best f code x y h (read-small f left x oe) (read-small f right y pe) in
+          let r = combine-both f code left right h x (sym oe) y (sym pe) (done (combined f code x y)) (refl, b) in
+          here _ (binary-done f code left right h i (r .0)) (r .1)

@@ -7,6 +7,7 @@ mod ordering;
 
 pub use conversion::convert;
 pub use operations::binary;
+pub use operations::is_binary;
 pub use ordering::Comparison;
 pub use ordering::Order;
 pub use ordering::compare;

@@ -190,7 +190,8 @@ fn exact_value(code: u64, v: Value, w: Value) -> Value
     exact(code, as_operand(v), as_operand(w))
 }
 
-fn is_binary(code: u64) -> bool
+// Whether there is such a code.
+pub fn is_binary(code: u64) -> bool
     ensures { λ r. ⌜ r ≡ isBinary code ⌝ }
 {
     (1 <= code) & (code <= 4)

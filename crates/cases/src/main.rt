@@ -2,6 +2,7 @@
 // decimal numbers parted by single spaces. tests/second writes the requests and what the answers
 // must be.
 mod operations;
+mod places;
 mod requests;
 mod show;
 mod single;
@@ -10,7 +11,8 @@ mod words;
 
 use libc::STDIN_FILENO;
 
-// The line read so far: its letter, the numbers that ended, and the number that has begun.
+// The line read so far: its letter, the first of the numbers that ended, how many ended, and the
+// number that has begun. All numbers of a line are in a lent list besides.
 pub(crate) struct Line {
     pub(crate) letter: u8,
     pub(crate) numbers: [u64; 8],
@@ -28,11 +30,14 @@ fn empty() -> Line {
 }
 
 // The line with the number that has begun put behind the others.
-fn ended(line: Line) -> Line {
+fn ended(line: Line, all: &mut [u64]) -> Line {
     let mut next = line;
     let at = line.count;
     if at < 8 {
         next.numbers[at] = line.digits;
+    }
+    if at < all.len() {
+        all[at] = line.digits;
         next.count = at + 1;
     }
     next.digits = 0;
@@ -40,10 +45,10 @@ fn ended(line: Line) -> Line {
 }
 
 // The line with one byte more. At a line feed the request is run, and a new line begins.
-fn fed(line: Line, b: u8) -> Line {
+fn fed(line: Line, all: &mut [u64], b: u8) -> Line {
     let mut next = line;
     if b == b'\n' {
-        requests::run(ended(line));
+        requests::run(ended(line, all), all);
         return empty();
     }
     if b == b' ' {
@@ -52,7 +57,7 @@ fn fed(line: Line, b: u8) -> Line {
             next.count = 1;
             return next;
         }
-        return ended(line);
+        return ended(line, all);
     }
     if b < b'0' || b'9' < b {
         next.letter = b;
@@ -65,11 +70,11 @@ fn fed(line: Line, b: u8) -> Line {
 }
 
 // The line after some bytes more.
-fn fed_all(line: Line, bytes: &[u8]) -> Line {
+fn fed_all(line: Line, all: &mut [u64], bytes: &[u8]) -> Line {
     let mut next = line;
     let mut i = 0;
     while i < bytes.len() {
-        next = fed(next, bytes[i]);
+        next = fed(next, all, bytes[i]);
         i += 1;
     }
     next
@@ -78,6 +83,7 @@ fn fed_all(line: Line, bytes: &[u8]) -> Line {
 fn main() {
     let mut buffer = io::large_buffer();
     let mut line = empty();
+    let mut all = [0u64; 64];
     // At most so many buffers, since a program has to end.
     let mut left: u64 = 1000000;
     while left > 0 {
@@ -85,7 +91,7 @@ fn main() {
         if n == 0 {
             return;
         }
-        line = fed_all(line, &buffer[..n]);
+        line = fed_all(line, &mut all, &buffer[..n]);
         left -= 1;
     }
 }

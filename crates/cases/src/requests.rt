@@ -1,15 +1,15 @@
 // The requests by their letters.
 use crate::Line;
 use crate::operations;
+use crate::places;
 use crate::show;
 use crate::single;
 use crate::table;
 use crate::words;
 use slash::Format;
 
-// Runs the request of a line and writes the answer's line. The first number is the letter's place
-// and says nothing.
-pub(crate) fn run(line: Line) {
+// A request on words. The first number is the letter's place and says nothing.
+fn run_words(line: Line) {
     let a = line.numbers;
     let letter = line.letter;
     let f = Format {
@@ -38,6 +38,35 @@ pub(crate) fn run(line: Line) {
         b'G' => single::gcd_all(f),
         b'q' => single::quotients(f, a[3], a[4]),
         _ => show::text(b"unknown"),
+    }
+}
+
+// A request on vectors, whose words are in the list of all numbers.
+fn run_vectors(line: Line, all: &[u64]) {
+    let a = line.numbers;
+    let letter = line.letter;
+    let f = Format {
+        kind: a[1],
+        k: a[2],
+    };
+    let to = Format {
+        kind: a[3],
+        k: a[4],
+    };
+    match letter {
+        b'x' => places::binary_each(f, a[3], a[4], a[5], a[6], all),
+        b'y' => places::unary_each(f, a[3], a[4], a[5], all),
+        b'z' => places::convert_each(f, to, a[5], a[6], all),
+        _ => show::text(b"unknown"),
+    }
+}
+
+// Runs the request of a line and writes the answer's line.
+pub(crate) fn run(line: Line, all: &[u64]) {
+    if line.letter < b'x' {
+        run_words(line);
+    } else {
+        run_vectors(line, all);
     }
     show::text(b"\n");
 }

@@ -96,6 +96,17 @@ module _ (f : Format) (h : known f ≡ true) where
   pub word-case : (a : Bool) (u v : Value) (w : ℕ) → u ≡ v → (w ≡ wordFor f a v) × BestWord f v w → (w ≡ wordFor f a u) × BestWord f u w
   word-case a u v w e r = subst (λ (x : Value). (w ≡ wordFor f a x) × BestWord f x w) (sym e) r
 
+  -- Demand 3, of every word that a value is written as.
+  pub word-best : (a : Bool) (v : Value) → isOverZero v ≡ false → BestWord f v (wordFor f a v)
+  unfolding wordFor rounded isOverZero
+  word-best a (Fraction p) z =
+      let n : p .denominator ≡ 0 → ⊥ = eqb-false _ _ z in
+      let some : 1 ≤ p .denominator = omega arith in
+      word-rounded a p (rounded f (p .numerator) (p .denominator)) refl (round-best (holds f) (format-limit f h) (p .numerator) (p .denominator) some) _ refl _ refl .1
+  word-best a (Zero s) z = word-zero a s _ refl .1
+  word-best a (Infinity s) z = word-infinity a s _ refl .1
+  word-best a NotANumber z = word-nan a _ refl .1
+
 -- ---- fractions over 0
 
 pub over-fraction : (v : Value) (p : Parts) → v ≡ Fraction p → eqb (p .denominator) 0 ≡ isOverZero v

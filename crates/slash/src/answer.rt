@@ -20,6 +20,9 @@ impl Stop {
     // Unknown operation code.
     pub const CODE: u64 = 2;
 
+    // Vectors of unequal length.
+    pub const LENGTH: u64 = 3;
+
     // A word with bits above its width.
     pub const WIDTH: u64 = 4;
 

@@ -27,7 +27,7 @@ use Rattle.slash.specs.Canonical.{HeldParts, HeldValue}
 use Rattle.slash.proofs.AnswerLaws.{done-inj, then-stop, then-done}
 use Rattle.slash.proofs.BitLaws.{one-shl, pow-next, bit-true, bit-false}
 use Rattle.slash.proofs.FormatLaws.{of-known, width-range, format-limit, small-parts, fixed-holds, holds-both, holds-floating, floating-holds}
-use Rattle.slash.proofs.WriteLaws.{write-done}
+use Rattle.slash.proofs.WriteLaws.{write-done, word-best}
 use Rattle.slash.proofs.Canonical.{read-known, read-held, read-says}
 use Rattle.slash.specs.declared.answer.Stop.{Stop}
 use Rattle.slash.specs.declared.answer.Answer.{Answer}
@@ -245,6 +245,10 @@ module _ (f : Format) (h : known f ≡ true) (code w : ℕ) (x : Number) where
         λ l. subst (λ (u : Value). WhenDone o (λ z. BestWord f u z)) e (r .1),
       )
 
+  pub result-best : HeldValue f (x .value) → 3 ≤ code → BestWord f (exactUnary code (x .value)) (unaryResult f code w x)
+  unfolding unaryResult
+  result-best q l = rw (lt-leb code 2 l) (word-best f h (x .approximate) (exactUnary code (x .value)) (over-exact f code (x .value) q))
+
 module _ (f : Format) (code w : ℕ) where
   pub unary-format : known f ≡ false → stop 1 0 ≡ unaryWord f code w
   unfolding unaryWord
@@ -268,6 +272,25 @@ module _ (f : Format) (code w : ℕ) where
         rw (h, i) (then-done _ e (r .0)),
         λ l. subst (λ (y : Number). WhenDone o (λ v. BestWord f (exactUnary code (y .value)) v)) (sym (read-says f h w x (sym e) .number)) (r .1 l),
       )
+
+-- Every word that codes 3 to 7 make is the best for the exact value.
+module _ (f : Format) (code w : ℕ) where
+  abbrev BestHere : ℕ → Type 0
+  BestHere v = 3 ≤ code → BestWord f (exactUnary code (numberOf f w .value)) v
+
+  pub unary-best : WhenDone (unaryWord f code w) BestHere
+  unary-best = go (known f) refl (isUnary code) refl (readWord f w) refl
+    where
+      here : (o : Outcome ℕ) → o ≡ unaryWord f code w → WhenDone o BestHere → WhenDone (unaryWord f code w) BestHere
+      here o e b = subst (λ (p : Outcome ℕ). WhenDone p BestHere) e b
+
+      go : (k : Bool) → known f ≡ k → (b : Bool) → isUnary code ≡ b → (o : Outcome Number) → readWord f w ≡ o → WhenDone (unaryWord f code w) BestHere
+      go false h b i o oe = here _ (unary-format f code w h) tt
+      go true h false i o oe = here _ (unary-code f code w h i) tt
+      go true h true i (stop n q) oe = here _ (unary-stop f code w h i (sym oe)) tt
+      go true h true i (done x) oe =
+          let r = unary-done f code w h i x (sym oe) (done (unaryResult f code w x)) (refl, result-best f h code w x (read-held f h w x oe)) in
+          here _ (r .0) (r .1)
 
 -- ---- what always fits
 

@@ -147,7 +147,8 @@ fn exact_value(code: u64, v: Value) -> Value
     }
 }
 
-fn is_unary(code: u64) -> bool
+// Whether there is such a code.
+pub fn is_unary(code: u64) -> bool
     ensures { λ r. ⌜ r ≡ isUnary code ⌝ }
 {
     (1 <= code) & (code <= 7)

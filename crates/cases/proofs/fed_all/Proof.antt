@@ -1,15 +1,16 @@
 -- `cases::fed_all` meets its contract. Assumes nothing.
-use Prim.Native.Nat.{_≤_, _-_}
-use lib.ListN.{length}
 use borrow.Author.Needs.{needs}
+use Prim.Native.Nat.{_≤_, _-_}
+use mathlib.Core.Path.{_≡_}
+use lib.ListN.{length}
 use Rattle.cases.proofs.fed_all.Statement.{statement}
 use Rattle.cases.proofs.fed_all.Tie as tie
 
 abbrev Inv-loop : tie.InvT-loop
-Inv-loop bytes next₀ i₀ next i = i ≤ length bytes
+Inv-loop all₀ bytes next₀ i₀ all next i = (i ≤ length bytes) × (length all ≡ length all₀)
 
 abbrev μ-loop : tie.MeasureT-loop
-μ-loop bytes next₀ i₀ next i = length bytes - i
+μ-loop all₀ bytes next₀ i₀ all next i = length bytes - i
 
 loop-holds : tie.Need-loop-holds Inv-loop μ-loop
 loop-holds c = search needs
@@ -29,6 +30,9 @@ loop-less c = search needs
 loop-again : tie.Need-loop-again Inv-loop μ-loop
 loop-again c = search needs
 
+same-length : tie.Need-same-length Inv-loop μ-loop
+same-length c = search needs
+
 returns : tie.Need-returns Inv-loop μ-loop
 returns c = search needs
 
@@ -44,4 +48,5 @@ fed-all-spec =
     add-i
     loop-less
     loop-again
+    same-length
     returns)

@@ -1,0 +1,83 @@
+-- `cases::places::unary_each` meets its contract. Assumes nothing.
+use lib.Seq.{length-take-le}
+use mathlib.Core.Path.{sym}
+use borrow.Author.Needs.{needs}
+use Rattle.cases.proofs.places.unary_each.Statement.{statement}
+use Rattle.cases.proofs.places.unary_each.Tie as tie
+
+returns : tie.Need-returns
+returns c = search needs
+
+at-most-16-requires : tie.Need-at-most-16-requires
+at-most-16-requires c κs = search needs
+
+add-end : tie.Need-add-end
+add-end c = search needs
+
+at-most-16-requires-2 : tie.Need-at-most-16-requires-2
+at-most-16-requires-2 c κs = search needs
+
+array-borrow-prefix-result : tie.Need-array-borrow-prefix-result
+array-borrow-prefix-result c = search needs
+
+slice-aggregate-lent : tie.Need-slice-aggregate-lent
+slice-aggregate-lent c = sym (length-take-le _ _ (c .before .at-most-162 .ensures))
+
+mul-copy : tie.Need-mul-copy
+mul-copy c = search needs
+
+sub-copy : tie.Need-sub-copy
+sub-copy c = search needs
+
+part-copy-start : tie.Need-part-copy-start
+part-copy-start c = search needs
+
+part-copy-end : tie.Need-part-copy-end
+part-copy-end c = search needs
+
+copy-requires : tie.Need-copy-requires
+copy-requires c κs = search needs
+
+sub-unary-each : tie.Need-sub-unary-each
+sub-unary-each c = search needs
+
+part-unary-each-start : tie.Need-part-unary-each-start
+part-unary-each-start c = search needs
+
+part-unary-each-end : tie.Need-part-unary-each-end
+part-unary-each-end c = search needs
+
+unary-each-requires : tie.Need-unary-each-requires
+unary-each-requires c κs = search needs
+
+show-stored-requires : tie.Need-show-stored-requires
+show-stored-requires c κs = search needs
+
+show-words-requires : tie.Need-show-words-requires
+show-words-requires c κs = search needs
+
+returns-2 : tie.Need-returns-2
+returns-2 c = search needs
+
+pub unary-each-spec : {M : Type 1} → statement M
+unary-each-spec =
+    tie.close
+    (tie.spec
+    returns
+    at-most-16-requires
+    add-end
+    at-most-16-requires-2
+    array-borrow-prefix-result
+    slice-aggregate-lent
+    mul-copy
+    sub-copy
+    part-copy-start
+    part-copy-end
+    copy-requires
+    sub-unary-each
+    part-unary-each-start
+    part-unary-each-end
+    unary-each-requires
+    show-stored-requires
+    show-words-requires
+    returns-2)

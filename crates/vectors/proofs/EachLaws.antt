@@ -1,0 +1,163 @@
+-- An operation at each place, by a check of all places and then a store at each. Assumes nothing.
+use mathlib.Core.Path.{_≡_, refl, sym, ap, _∙_, subst}
+use mathlib.Core.List.{List, [], _∷_, _++_, map, append-assoc, append-nil}
+use Prim.Native.Nat.{ℕ, zero, suc, _+_, _≤_, _<_}
+use native.Mathlib.Omega.{arith}
+use native.Mathlib.Nat.{not-suc-le-zero, le-of-suc-le-suc}
+use native.Mathlib.Numerals.{add-one}
+use lib.ListN.{length, take, drop, set, getD, drop-of-length-le}
+use lib.Seq.{drop-cons, take-suc-set, take-all}
+use Rattle.slash.specs.Answers.{Outcome, stop, done, _then_, WhenDone}
+use Rattle.slash.proofs.AnswerLaws.{plain-stop}
+use Rattle.slash.specs.declared.answer.Stop.{Stop}
+use Rattle.vectors.specs.Each.{atPlace, each, vectorAfter, told, storedOutcome, EachPlace}
+use Rattle.vectors.specs.Vectors.{Operands, operands, places}
+use Rattle.vectors.specs.Steps.{checks, wordIn}
+use Rattle.vectors.specs.declared.stored.Stored.{Stored}
+use Rattle.vectors.specs.declared.stored.Stored.the-variants as Stored
+
+-- ---- the operands at place i and after
+
+pub word-at : (xs : List ℕ) (i : ℕ) → i < length xs → drop i xs ≡ getD xs i 0 ∷ drop (i + 1) xs
+word-at xs i h = rw add-one (drop-cons xs i 0 h)
+
+shorter : (l r : List ℕ) (x y : ℕ) → length (x ∷ l) ≡ length (y ∷ r) → length l ≡ length r
+shorter l r x y e = omega arith
+
+places-next : (l r : List ℕ) (i : ℕ) → length l ≡ length r → i < length l → drop i (places l r) ≡ operands (getD l i 0) (getD r i 0) ∷ drop (suc i) (places l r)
+unfolding places
+places-next [] r i e h = absurd (not-suc-le-zero h)
+places-next (x ∷ l) [] i e h = absurd (omega arith)
+places-next (x ∷ l) (y ∷ r) zero e h = refl
+places-next (x ∷ l) (y ∷ r) (suc i) e h = places-next l r i (shorter l r x y e) (le-of-suc-le-suc h)
+
+pub operands-at : (l r : List ℕ) (i : ℕ) → length l ≡ length r → i < length l → drop i (places l r) ≡ operands (getD l i 0) (getD r i 0) ∷ drop (i + 1) (places l r)
+operands-at l r i e h = rw add-one (places-next l r i e h)
+
+pub length-places : (l r : List ℕ) → length l ≡ length r → length (places l r) ≡ length l
+unfolding places
+length-places [] r e = refl
+length-places (x ∷ l) [] e = absurd (omega arith)
+length-places (x ∷ l) (y ∷ r) e = ap suc (length-places l r (shorter l r x y e))
+
+told-word : {B : Type 0} (o : Outcome B) (g : B → List ℕ) → told (o then λ x. done (g x)) ≡ told o
+unfolding told
+told-word (stop n p) g = refl
+told-word (done x) g = refl
+
+module _ {A : Type 0} where
+  -- ---- the check, a place at a time
+
+  module _ (check : A → Outcome (Unit {0})) (xs : List A) (i : ℕ) where
+    pub check-next : (x : A) → drop i xs ≡ x ∷ drop (i + 1) xs → done tt ≡ check x → checks check (i + 1) (drop (i + 1) xs) ≡ checks check i (drop i xs)
+    unfolding checks atPlace
+    check-next x e d = rw (e, ← d, add-one) refl
+
+    pub check-stop : (x : A) {n p : ℕ} → drop i xs ≡ x ∷ drop (i + 1) xs → stop n p ≡ check x → stop n i ≡ checks check i (drop i xs)
+    unfolding checks atPlace
+    check-stop x e d = rw (e, ← d) refl
+
+    pub check-end : length xs ≤ i → done tt ≡ checks check i (drop i xs)
+    unfolding checks
+    check-end h = rw (drop-of-length-le xs h) refl
+
+  -- ---- the store, a place at a time: what is stored, and what is made of the rest, is the whole
+
+  module _ (g : A → ℕ) (xs : List A) (out : List ℕ) (i : ℕ) where
+    pub store-next : (x : A) (w : ℕ) → drop i xs ≡ x ∷ drop (i + 1) xs → i < length out → w ≡ g x
+        → take (i + 1) (set out i w) ++ map g (drop (i + 1) xs) ≡ take i out ++ map g (drop i xs)
+    store-next x w e h we =
+        let t : take (i + 1) (set out i w) ≡ take i out ++ (w ∷ []) = rw add-one (take-suc-set out i w h) in
+        rw (t, append-assoc, e, we) refl
+
+    pub store-end : length xs ≤ i → length out ≤ i → take i out ++ map g (drop i xs) ≡ out
+    store-end h l = rw (drop-of-length-le xs h, take-all i out l, append-nil) refl
+
+  -- ---- an operation that stops as its check does
+
+  module _ (op : A → Outcome ℕ) (check : A → Outcome (Unit {0})) (agree : (x : A) → told (op x) ≡ check x) where
+    told-each : (i : ℕ) (xs : List A) → told (each op i xs) ≡ checks check i xs
+    unfolding told each checks atPlace
+    told-each i [] = refl
+    told-each i (x ∷ xs) = go (op x) refl (told-each (suc i) xs)
+      where
+        go : (o : Outcome ℕ) → op x ≡ o → told (each op (suc i) xs) ≡ checks check (suc i) xs → told (each op i (x ∷ xs)) ≡ checks check i (x ∷ xs)
+        go (stop n p) e ih = rw (← agree x, e) refl
+        go (done w) e ih = rw (← agree x, e) (told-word (each op (suc i) xs) (λ ws. w ∷ ws) ∙ ih)
+
+    each-words : (i : ℕ) (xs : List A) → checks check i xs ≡ done tt → each op i xs ≡ done (map (λ x. wordIn (op x)) xs)
+    unfolding told each checks atPlace wordIn
+    each-words i [] c = refl
+    each-words i (x ∷ xs) c = go (op x) refl (each-words (suc i) xs)
+      where
+        go : (o : Outcome ℕ) → op x ≡ o → (checks check (suc i) xs ≡ done tt → each op (suc i) xs ≡ done (map (λ y. wordIn (op y)) xs))
+            → each op i (x ∷ xs) ≡ done (map (λ y. wordIn (op y)) (x ∷ xs))
+        go (stop n p) e ih =
+            let d : stop n i ≡ checks check i (x ∷ xs) = rw (← agree x, e) refl in
+            let z : _≡_ {A = ℕ} 0 1 = cc in
+            absurd (omega arith)
+        go (done w) e ih =
+            let d : checks check (suc i) xs ≡ checks check i (x ∷ xs) = rw (← agree x, e) refl in
+            rw (e, ih (d ∙ c)) refl
+
+    -- the answers of a vector form
+    module _ (P : A → ℕ → Type 0) (best : (x : A) → WhenDone (op x) (P x)) (xs : List A) (old : List ℕ) (o : Outcome (List ℕ)) where
+      each-best : (i : ℕ) (ys : List A) → WhenDone (each op i ys) (λ ws. EachPlace P ys ws)
+      unfolding each atPlace EachPlace
+      each-best i [] = tt
+      each-best i (y ∷ ys) = go (op y) refl (each op (suc i) ys) refl (best y) (each-best (suc i) ys)
+        where
+          go : (p : Outcome ℕ) → op y ≡ p → (q : Outcome (List ℕ)) → each op (suc i) ys ≡ q → WhenDone (op y) (P y) → WhenDone (each op (suc i) ys) (λ ws. EachPlace P ys ws)
+              → WhenDone (each op i (y ∷ ys)) (λ ws. EachPlace P (y ∷ ys) ws)
+          go (stop n p) e q d b r = rw e tt
+          go (done w) e (stop n p) d b r = rw (e, d) tt
+          go (done w) e (done ws) d b r =
+              let b₁ : P y w = subst (λ (p : Outcome ℕ). WhenDone p (P y)) e b in
+              let r₁ : EachPlace P ys ws = subst (λ (p : Outcome (List ℕ)). WhenDone p (λ vs. EachPlace P ys vs)) d r in
+              rw (e, d) (b₁, r₁)
+
+      module _ (oe : each op 0 xs ≡ o) (res : Stored) (re : storedOutcome res ≡ checks check 0 xs) where
+        pub each-stopped : (s : Stop) → res ≡ Stored.Stopped s
+            → (stop (s .number) (s .place) ≡ told o) × ((old ≡ vectorAfter o old) × Unit {0})
+        unfolding told vectorAfter
+        each-stopped s e =
+            let t : stop (s .number) (s .place) ≡ told o = sym (ap storedOutcome e) ∙ re ∙ sym (told-each 0 xs) ∙ ap told oe in
+            go o t
+          where
+            go : (p : Outcome (List ℕ)) → stop (s .number) (s .place) ≡ told p → (stop (s .number) (s .place) ≡ told p) × ((old ≡ vectorAfter p old) × Unit {0})
+            go (stop n p) t = (t, (refl, tt))
+            go (done ws) t = let z : _≡_ {A = ℕ} 0 1 = cc in absurd (omega arith)
+
+        pub each-done : res ≡ Stored.Done → (new : List ℕ) → new ≡ map (λ x. wordIn (op x)) xs
+            → (done tt ≡ told o) × ((new ≡ vectorAfter o old) × EachPlace P xs new)
+        unfolding told vectorAfter
+        each-done e new ne =
+            let c : checks check 0 xs ≡ done tt = sym re ∙ ap storedOutcome e in
+            let w : each op 0 xs ≡ done new = each-words 0 xs c ∙ ap done (sym ne) in
+            let d : o ≡ done new = sym oe ∙ w in
+            let b : EachPlace P xs new = subst (λ (p : Outcome (List ℕ)). WhenDone p (λ ws. EachPlace P xs ws)) w (each-best 0 xs) in
+            (rw d refl, (rw d refl, b))
+
+-- a stop before the words are looked at
+pub refused : (s : Stop) (n : ℕ) (o : Outcome (List ℕ)) (old : List ℕ) → s ≡ record { number = n; place = 0 } → stop n 0 ≡ o
+    → (stop (s .number) (s .place) ≡ told o) × ((old ≡ vectorAfter o old) × Unit {0})
+unfolding told vectorAfter
+refused s n o old se e =
+    let t : stop (s .number) (s .place) ≡ o = plain-stop s n se e in
+    (rw (← t) refl, (rw (← t) refl, tt))
+
+-- what a check answered, by its case
+module _ {a : Stored} {o : Outcome (Unit {0})} (h : storedOutcome a ≡ o) where
+  pub stored-stop : {s : Stop} → a ≡ Stored.Stopped s → stop (s .number) (s .place) ≡ o
+  stored-stop e = sym (ap storedOutcome e) ∙ h
+
+  pub stored-done : a ≡ Stored.Done → done tt ≡ o
+  stored-done e = sym (ap storedOutcome e) ∙ h
+
+pub told-stop : {A : Type 0} {o : Outcome A} {n p : ℕ} → stop n p ≡ o → stop n p ≡ told o
+unfolding told
+told-stop {A} {o} {n} {p} e = ap told e
+
+pub told-done : {A : Type 0} {o : Outcome A} {x : A} → done x ≡ o → done tt ≡ told o
+unfolding told
+told-done {A} {o} {x} e = ap told e

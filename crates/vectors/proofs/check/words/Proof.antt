@@ -1,0 +1,78 @@
+-- `vectors::check::words` meets its contract. Assumes nothing.
+use Rattle.vectors.proofs.EachLaws.{word-at, check-next, check-stop, check-end, stored-stop, stored-done}
+use Rattle.vectors.specs.Each.{storedOutcome}
+use Rattle.vectors.specs.Steps.{checks, checkWord}
+use borrow.Author.Needs.{needs}
+use native.Mathlib.Omega.{arith}
+use mathlib.Core.Path.{_≡_, refl, ap, _∙_}
+use Prim.Native.Nat.{_≤_, _-_}
+use lib.ListN.{length, take, drop}
+use Rattle.vectors.proofs.check.words.Statement.{statement}
+use Rattle.vectors.proofs.check.words.Tie as tie
+
+abbrev Inv-loop : tie.InvT-loop
+Inv-loop f operand i₀ i = (i ≤ length operand) × (checks (checkWord f) i (drop i operand) ≡ checks (checkWord f) 0 operand)
+
+abbrev μ-loop : tie.MeasureT-loop
+μ-loop f operand i₀ i = length operand - i
+
+loop-holds : tie.Need-loop-holds Inv-loop μ-loop
+loop-holds c = (omega arith, refl)
+
+mul-word : tie.Need-mul-word Inv-loop μ-loop
+mul-word c = search needs
+
+shared-slice-read-word : tie.Need-shared-slice-read-word Inv-loop μ-loop
+shared-slice-read-word c = search needs
+
+word-requires : tie.Need-word-requires Inv-loop μ-loop
+word-requires c κs = search needs
+
+enum-known-s : tie.Need-enum-known-s Inv-loop μ-loop
+enum-known-s c = search needs
+
+at-place-requires : tie.Need-at-place-requires Inv-loop μ-loop
+at-place-requires c κs = search needs
+
+returns : tie.Need-returns Inv-loop μ-loop
+returns c =
+    let at = c .before .before .before .before .before .before .before .loop in
+    ap storedOutcome (c .at-place .ensures)
+    ∙ check-stop (checkWord _) _ _ _ (word-at _ _ (c .before .before .before .before .before .before .loop-test .taken)) (stored-stop (c .before .before .before .before .word .ensures) (c .before .before .s .given .1))
+    ∙ at .inv .1
+
+enum-told : tie.Need-enum-told Inv-loop μ-loop
+enum-told c = search needs
+
+add-i : tie.Need-add-i Inv-loop μ-loop
+add-i c = search needs
+
+loop-less : tie.Need-loop-less Inv-loop μ-loop
+loop-less c = search needs
+
+loop-again : tie.Need-loop-again Inv-loop μ-loop
+loop-again c =
+    let at = c .before .before .before .before .before .loop in
+    (omega arith, check-next (checkWord _) _ _ _ (word-at _ _ (c .before .before .before .before .loop-test .taken)) (stored-done (c .before .before .word .ensures) (c .enum-told .given .1)) ∙ at .inv .1)
+
+returns-2 : tie.Need-returns-2 Inv-loop μ-loop
+returns-2 c = check-end (checkWord _) _ _ (c .loop-test .left) ∙ c .before .loop .inv .1
+
+pub words-spec : {M : Type 1} → statement M
+words-spec =
+    tie.close
+    (tie.spec
+    Inv-loop
+    μ-loop
+    loop-holds
+    mul-word
+    shared-slice-read-word
+    word-requires
+    enum-known-s
+    at-place-requires
+    returns
+    enum-told
+    add-i
+    loop-less
+    loop-again
+    returns-2)

@@ -1,0 +1,41 @@
+-- An operation at each place of a list.
+use Prim.Native.Nat.{ℕ, suc}
+use mathlib.Core.List.{List, [], _∷_}
+use Rattle.slash.specs.Answers.{Outcome, stop, done, _then_}
+use Rattle.vectors.specs.declared.stored.Stored.{Stored}
+use Rattle.vectors.specs.declared.stored.Stored.the-variants as Stored
+
+-- A stop that names its place.
+unfoldable pub atPlace : {A : Type 0} → ℕ → Outcome A → Outcome A
+atPlace i (stop number place) = stop number i
+atPlace i (done x) = done x
+
+-- An operation at each place, from place i on: the words that it gives, in order, or the stop of the lowest place that has one.
+unfoldable pub each : {A : Type 0} → (A → Outcome ℕ) → ℕ → List A → Outcome (List ℕ)
+each op i [] = done []
+each op i (x ∷ xs) =
+    atPlace i (op x) then λ w.
+    each op (suc i) xs then λ ws.
+    done (w ∷ ws)
+
+-- What a lent vector holds then: the words; on a stop all as it was.
+unfoldable pub vectorAfter : Outcome (List ℕ) → List ℕ → List ℕ
+vectorAfter (stop number place) old = old
+vectorAfter (done words) old = words
+
+-- What is told besides: a stop, or that there was none.
+unfoldable pub told : {A : Type 0} → Outcome A → Outcome (Unit {0})
+told (stop number place) = stop number place
+told (done x) = done tt
+
+-- The outcome that each answer stands for.
+abbrev pub storedOutcome : Stored → Outcome (Unit {0})
+storedOutcome Stored.Done = done tt
+storedOutcome (Stored.Stopped s) = stop (s .number) (s .place)
+
+-- What holds, at each place, of the operands and the word there. (The two lists are equally long.)
+unfoldable pub EachPlace : {A : Type 0} → (A → ℕ → Type 0) → List A → List ℕ → Type 0
+EachPlace P [] [] = Unit {0}
+EachPlace P (x ∷ xs) (w ∷ ws) = P x w × EachPlace P xs ws
+EachPlace P [] (w ∷ ws) = ⊥
+EachPlace P (x ∷ xs) [] = ⊥

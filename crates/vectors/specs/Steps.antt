@@ -1,0 +1,31 @@
+-- Steps of the code on its way to what the papers say; no part of that.
+use Prim.Native.Nat.{ℕ, suc}
+use mathlib.Core.List.{List, [], _∷_}
+use Rattle.slash.specs.Answers.{Outcome, stop, done, _then_}
+use Rattle.slash.specs.Words.{readWord}
+use Rattle.slash.specs.declared.format.Format.{Format}
+use Rattle.arithmetic.specs.Binary.{binaryWord}
+use Rattle.vectors.specs.Each.{atPlace, told}
+use Rattle.vectors.specs.Vectors.{Operands}
+
+-- A check at each place, from place i on.
+unfoldable pub checks : {A : Type 0} → (A → Outcome (Unit {0})) → ℕ → List A → Outcome (Unit {0})
+checks check i [] = done tt
+checks check i (x ∷ xs) =
+    atPlace i (check x) then λ _.
+    checks check (suc i) xs
+
+-- One word, or the two at a place, the left one first.
+unfoldable pub checkWord : Format → ℕ → Outcome (Unit {0})
+checkWord f w = told (readWord f w)
+
+unfoldable pub checkOperands : Format → Operands → Outcome (Unit {0})
+checkOperands f x = checkWord f (x .left) then λ _. checkWord f (x .right)
+
+-- What is stored for an outcome; 0 where it is a stop, which doesn't come to pass.
+unfoldable pub wordIn : Outcome ℕ → ℕ
+wordIn (stop number place) = 0
+wordIn (done w) = w
+
+unfoldable pub binaryIn : Format → ℕ → Operands → ℕ
+binaryIn f code x = wordIn (binaryWord f code (x .left) (x .right))

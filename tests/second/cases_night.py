@@ -1,0 +1,505 @@
+"""The cases on a night's recording: recipes of recordings and what is printed for them.
+
+A recipe is pieces parted by one space, each COUNT*HEX: the bytes of HEX, COUNT
+times. A comment line before each recipe names its case and is printed as it is.
+"""
+
+import random
+
+import night
+from cases_common import chosen
+
+# The most bytes of a recipe and of a recording.
+LONGEST_RECIPE = 4000
+LONGEST_RECORDING = 2300000
+
+# A listing with more bytes is shown by its length, its checksum and its end.
+LONGEST_SHOWN = 2000
+END_SHOWN = 64
+
+# The recording that document 01 prints, and its listing.
+EXAMPLE = b"0\t277\t642\n4294967290\t10\t34\n100\t100\t100\n"
+EXAMPLE_LISTING = (
+    b"1\t01150282\t277/642\t43.1\n"
+    b"2\t00020005\t2/5\t40.0\n"
+    b"3\t00000000\t-\t-\n"
+    b"all\t012502aa\t293/682\t43.0\n"
+)
+
+# A breath that goes before what is refused, and one that goes after.
+GOOD = b"0\t277\t642\n"
+LATER = b"642\t800\t1000\n"
+
+
+# Recipes and what is printed for them.
+
+
+def recipes():
+    """The lines of the test program's input: a comment and a recipe for each case."""
+    for name, pieces in all_cases():
+        yield comment(name)
+        yield recipe(pieces)
+
+
+def answers():
+    """What the test program prints, as bytes, for each of those lines."""
+    for name, pieces in all_cases():
+        yield comment(name).encode("ascii") + b"\n"
+        yield shown(night.listing(recording(pieces))) + b"\n"
+
+
+def all_cases():
+    """Every case in order: its name and its pieces, each a count and bytes."""
+    for group in GROUPS:
+        for number, case in enumerate(group(), 1):
+            words = group.__name__.replace("_", " ")
+            yield "%s %d" % (words, number), case
+
+
+def comment(name):
+    """The line that names a case."""
+    return "# " + name
+
+
+def recipe(pieces):
+    """The line that tells how a recording is made."""
+    line = " ".join("%d*%s" % (count, text.hex()) for count, text in pieces)
+    assert len(line) <= LONGEST_RECIPE
+    return line
+
+
+def recording(pieces):
+    """The recording that the pieces make."""
+    made = b"".join(text * count for count, text in pieces)
+    assert len(made) <= LONGEST_RECORDING
+    return made
+
+
+def shown(listing):
+    """A short listing itself; of a long one the length, the checksum and the end."""
+    if len(listing) <= LONGEST_SHOWN:
+        return listing
+    head = "%d %d\n" % (len(listing), checksum(listing))
+    return head.encode("ascii") + listing[-END_SHOWN:]
+
+
+def checksum(text):
+    """The checksum of bytes: times 31 plus the next, modulo 2^32."""
+    h = 0
+    for byte in text:
+        h = (h * 31 + byte) % 2**32
+    return h
+
+
+# Pieces.
+
+
+def line(*fields):
+    """A line of these fields."""
+    return "\t".join(map(str, fields)).encode("ascii") + b"\n"
+
+
+def breath(inward, whole, onset=0):
+    """A line whose breathing in and whole breath are these, modulo 2^32."""
+    return line(onset, (onset + inward) % night.CLOCK, (onset + whole) % night.CLOCK)
+
+
+def once(*texts):
+    """The one piece of these bytes."""
+    return [(1, b"".join(texts))]
+
+
+def alone_and_between(text):
+    """A line by itself, and between good ones."""
+    yield once(text)
+    yield once(GOOD, text, LATER)
+
+
+# 1. Breaths.
+
+
+def the_example():
+    """Document 01's recording, and its lines alone."""
+    yield once(EXAMPLE)
+    for text in EXAMPLE.splitlines(keepends=True):
+        yield once(text)
+
+
+def wrapped_clocks():
+    """Clocks that start again before the peak, after it, and next to both."""
+    last = night.LARGEST_TICK
+    for onset in (0, 1, last, last - 1, last - 277, last - 276, last - 642, last - 641):
+        yield once(breath(277, 642, onset))
+    yield once(*(breath(277, 642, last - step) for step in range(0, 700, 50)))
+    yield once(line(last, 0, 1), line(last, last, 0), line(last - 1, last, 0))
+    yield once(line(2**31, 0, 2**31 - 1), line(2**31, 2**31 - 1, 2**31 - 1))
+
+
+def void_breaths():
+    """A whole of 0, and a breathing in longer than the whole."""
+    last = night.LARGEST_TICK
+    for onset in (0, 100, last):
+        yield once(breath(0, 0, onset))
+        yield once(breath(5, 0, onset))
+        yield once(breath(6, 5, onset))
+        yield once(breath(last, last - 1, onset))
+    yield once(breath(last, 0), breath(1, 0), breath(2, 1), breath(0, 0, last))
+
+
+def void_and_good():
+    """Void breaths among good ones, which alone are summed."""
+    yield once(breath(0, 0), GOOD, breath(9, 8), LATER, breath(7, 0))
+    yield once(GOOD, breath(night.LARGEST_TICK, 1))
+    yield once(breath(night.LARGEST_TICK, 1), GOOD)
+    yield once(breath(3, 2), breath(2, 3), breath(1, 0))
+
+
+def ends_of_the_ratio():
+    """Breathing in of 0 and of the whole breath."""
+    for whole in (1, 2, 642, 32767, 32768, 65535, 2**31, night.LARGEST_TICK):
+        yield once(breath(0, whole), breath(whole, whole), breath(whole - 1, whole))
+        yield once(breath(0, whole, 7), breath(0, whole, 9))
+        yield once(breath(whole, whole, 7), breath(whole, whole, 9))
+
+
+def percentages():
+    """Percentages at a half and next to it, 0.0 and 100.0."""
+    ratios = [(1, 16), (3, 16), (5, 16), (15, 16), (1, 2000), (3, 2000), (1, 2001)]
+    ratios += [(1999, 2000), (1997, 2000), (2000, 2001), (1998, 1999), (999, 1000)]
+    ratios += [(1, 1999), (1, 80), (79, 80), (1, 400), (399, 400), (32766, 32767)]
+    ratios += [(1, 32767), (1, 3), (2, 3), (1, 1), (0, 1), (1, 1000), (19, 20)]
+    for n, d in ratios:
+        yield once(breath(n, d))
+        yield once(breath(n, d), breath(1, 2))
+    yield once(*(breath(n, d) for n, d in ratios))
+
+
+def percentages_of_the_fraction():
+    """Ticks just below a half percentage whose fraction is at it, and just above."""
+    for n, d in ((1, 16), (3, 16), (1, 2000), (1999, 2000), (7, 16), (1, 80)):
+        times = night.LARGEST_TICK // d
+        for off in (-1, 0, 1):
+            yield once(breath(times * n + off, times * d))
+            yield once(breath(times * n + off, times * d), breath(0, 0))
+
+
+def large_ratios():
+    """Ratios that 15 bits can't hold: rounded and marked."""
+    last = night.LARGEST_TICK
+    ratios = [(1, 32768), (32767, 32768), (1, 65536), (1, 65535), (1, last)]
+    ratios += [(32768, 32769), (16384, 32769), (40000, 65537), (last - 1, last)]
+    ratios += [(2971215073, 4294967291), (1836311903, 2971215073), (2**31, last)]
+    ratios += [(14930352, 24157817), (10610209857723 % 2**32, last), (65537, last)]
+    for n, d in ratios:
+        yield once(breath(n, d))
+        yield once(breath(n, d, 123456789), breath(1, 3))
+    yield once(*(breath(n, d) for n, d in ratios))
+
+
+# 2. Lines and fields.
+
+
+def widest_lines():
+    """32 bytes before the line feed, good or not, and 33."""
+    for wide in (
+        line(1000000000, 1500000000, 2999999999),
+        line(4294967295, 4294967294, 4294967293),
+        line(4294967295, 4294967295, 4294967295),
+        line(4294967296, 4294967295, 4294967295),
+        line(1000000000, 1500000000, 29999999990),
+        line(10000000000, 1500000000, 2999999999),
+        line(1000000000, 15000000000, 2999999999),
+        line("0" * 32),
+        line("0" * 33),
+        line("0" * 30, ""),
+        line("0" * 31, ""),
+        line("0" * 32, ""),
+        line("", "", "0" * 30),
+        line("", "", "0" * 31),
+        line("0" * 34),
+        line("0" * 64),
+        line("0" * 256),
+        line("0" * 1000),
+    ):
+        yield from alone_and_between(wide)
+
+
+def line_feed_missing():
+    """A last line that isn't ended, with and without good lines before."""
+    for text in (b"0\t277\t642", b"0", b"\t", b"0\t1", b"x", b"0" * 32, b"0" * 33):
+        yield once(text)
+        yield once(GOOD, text)
+        yield once(GOOD, LATER, GOOD, text)
+
+
+def empty_lines():
+    """Line feeds with nothing before them."""
+    yield from alone_and_between(b"\n")
+    yield once(b"\n\n")
+    yield once(GOOD, b"\n")
+    yield once(GOOD, LATER, b"\n\n\n")
+
+
+def fields_in_number():
+    """Too few and too many fields, empty ones among them."""
+    texts = [b"0\t277", b"0", b"0\t277\t642\t", b"\t0\t277\t642", b"0\t277\t642\t700"]
+    texts += [b"0\t\t277\t642", b"0\t277\t\t642", b"\t", b"\t\t\t", b"\t" * 32]
+    texts += [b"0\t1\t2\t3\t4\t5\t6\t7\t8\t9", b"1\t", b"\t1", b"x\ty", b"01\t02"]
+    texts += [b"x\ty\tz\tw", b"0 277 642", b"0,277,642", b"0\t277 642", b"0  277\t642"]
+    for text in texts:
+        yield from alone_and_between(text + b"\n")
+
+
+def empty_fields():
+    """Three fields, some with nothing in them."""
+    for fields in (("", 277, 642), (0, "", 642), (0, 277, ""), ("", "", "")):
+        yield from alone_and_between(line(*fields))
+    yield from alone_and_between(line(0, "", ""))
+
+
+def in_each_field(text):
+    """A good line with this text in place of each field in turn."""
+    fields = [b"5", b"7", b"9"]
+    for place in range(3):
+        changed = [*fields[:place], text, *fields[place + 1 :]]
+        yield b"\t".join(changed) + b"\n"
+
+
+def leading_zeros():
+    """Zeros before a number, and 0 itself."""
+    for text in (b"0", b"00", b"000", b"01", b"007", b"0277", b"04294967295", b"10"):
+        for changed in in_each_field(text):
+            yield from alone_and_between(changed)
+
+
+def largest_numbers():
+    """The largest tick mark and what lies beyond, in each field."""
+    numbers = [4294967294, 4294967295, 4294967296, 4294967297, 4294967299, 4294967300]
+    numbers += [999999999, 1000000000, 4000000000, 4300000000, 5000000000, 9999999999]
+    numbers += [10000000000, 42949672950, 42949672960, 99999999999, 2**63, 2**64 - 1]
+    numbers += [2**64, 2**64 + 1, 2**65 + 7, 10**19, 10**20, 10**27, 10**28 - 1]
+    for number in numbers:
+        for changed in in_each_field(b"%d" % number):
+            yield once(GOOD, changed, LATER)
+    for changed in in_each_field(b"4294967296"):
+        yield once(changed)
+
+
+def strange_bytes():
+    """Bytes that are no digits, before, within and after a number."""
+    strange = [b"\r", b"\0", b"\x0b", b"\x0c", b"\x1f", b" ", b"+", b"-", b"/", b":"]
+    strange += [b"a", b"e", b"x", b".", b",", b"_", b"'", b"\x7f", b"\x80", b"\xa0"]
+    strange += [b"\xb2", b"\xb9", b"\xc2\xb2", b"\xd9\xa1", b"\xef\xbb\xbf", b"\xff"]
+    for byte in strange:
+        for text in (byte, byte + b"7", b"7" + byte, b"7" + byte + b"7"):
+            for changed in list(in_each_field(text))[:: 2 if len(byte) > 1 else 1]:
+                yield once(GOOD, changed, LATER)
+    yield once(b"0\t277\t642\r\n", LATER)
+    yield once(b"\xef\xbb\xbf", GOOD)
+    yield once(GOOD, b"\0")
+
+
+def every_byte():
+    """Each byte by itself, as a line, and in place of the last digit."""
+    for byte in range(256):
+        yield once(GOOD, bytes([byte]))
+        yield once(bytes([byte]), b"\n", GOOD)
+        yield once(b"0\t277\t64", bytes([byte]), b"\n", GOOD)
+
+
+def first_stop():
+    """Lines that earn several stops: the lowest number, then the first line."""
+    bad = [b"0" * 33 + b"\n", b"0\n", b"0\t1\tx\n"]
+    for first in bad:
+        for second in bad:
+            yield once(GOOD, first, second)
+    yield once(b"x" * 33 + b"\n")
+    yield once(b"x\t" * 20 + b"\n")
+    yield once(b"x\ty\n")
+    yield once(b"x\ty\tz\tw\n")
+    yield once(b"x\ty")
+    yield once(b"x\ty\tz")
+    yield once(GOOD, b"0" * 40)
+
+
+def no_line():
+    """The empty recording."""
+    yield []
+    yield [(0, b"")]
+    yield [(1, b"")]
+    yield [(0, GOOD)]
+
+
+# 3. Long recordings.
+
+
+def most_lines():
+    """65,536 lines, and one that begins after them."""
+    for text in (GOOD, breath(1, 16, 5), breath(6, 5), EXAMPLE_OF_FOUR):
+        times = night.MOST_LINES // text.count(b"\n")
+        yield [(times, text)]
+        yield [(times, text), (1, GOOD)]
+    full = (night.MOST_LINES, GOOD)
+    for text in (b"x", b"\n", b"0" * 40 + b"\n", b"0\t1\n", b"x\ty\tz\n", GOOD * 3):
+        yield [full, (1, text)]
+    yield [full, (0, GOOD)]
+
+
+EXAMPLE_OF_FOUR = EXAMPLE + GOOD
+
+
+def bad_last_lines():
+    """Lines before and at the 65,536th that are refused."""
+    for text in (b"\n", b"x\ty\tz\n", b"0\t1\n", b"0" * 33 + b"\n", b"0\t1\t2"):
+        yield [(night.MOST_LINES - 1, GOOD), (1, text)]
+        yield [(night.MOST_LINES - 1, GOOD), (1, text), (1, GOOD)]
+    yield [(night.MOST_LINES - 2, GOOD), (1, b"\n"), (1, GOOD)]
+    yield [(40000, GOOD), (1, b"01\t2\t3\n"), (20000, GOOD)]
+
+
+def widest_recordings():
+    """The longest recordings: 65,536 lines of the widest sort, and bytes beyond."""
+    wide = line(1000000000, 1500000000, 2999999999)
+    longest = line(4294967295, 4294967294, 4294967294)
+    for text in (wide, longest, line(1234567890, 2345678901, 3456789013)):
+        assert len(text) == night.MOST_BYTES + 1
+        yield [(night.MOST_LINES, text)]
+    yield [(night.MOST_LINES, wide), (1, b"x")]
+    full = night.MOST_LINES * len(wide)
+    yield [(night.MOST_LINES, wide), (LONGEST_RECORDING - full, b"1")]
+    yield [(LONGEST_RECORDING, b"1")]
+    yield [(LONGEST_RECORDING, b"\n")]
+    yield [(LONGEST_RECORDING // len(GOOD), GOOD)]
+
+
+def largest_sums():
+    """Sums of 65,536 breaths as long as the clock allows, and sums that pass 2^32."""
+    last, most = night.LARGEST_TICK, night.MOST_LINES
+    yield [(most, breath(last, last, 1))]
+    yield [(most, breath(last - 1, last, 1))]
+    yield [(most, breath(0, last, 1))]
+    yield [(most // 2, breath(last, last, 1)), (most // 2, breath(0, last, 1))]
+    yield [(most - 1, breath(last, last, 1)), (1, breath(0, 1, 1))]
+    yield [(most - 1, breath(0, last, 1)), (1, breath(1, 1, 1))]
+    yield [(most // 3, breath(2**31, last, 1)), (most // 3, breath(1, last, 1))]
+    yield [(2, breath(2**31, 2**31 + 3, 1))]
+    yield [(1, breath(2**31, 2**31 + 3, 1)), (1, breath(2**31, 2**31 + 3, 1))]
+    yield [(3, breath(last, last, 1)), (5, breath(2**31, last, 1))]
+    yield [(most - 1, breath(6, 5)), (1, GOOD)]
+    yield [(most, breath(0, 0))]
+
+
+def listings_about_as_long_as_shown():
+    """Listings of the longest length that is shown itself, and of one byte more."""
+    for length in (LONGEST_SHOWN - 1, LONGEST_SHOWN, LONGEST_SHOWN + 1):
+        yield with_listing_of(length)
+
+
+def with_listing_of(length):
+    """Pieces, of void breaths, zeros and thirds, whose listing has this length."""
+    counts = [(v, z, t) for v in range(100, 116) for z in range(12) for t in range(9)]
+    for voids, zeros, thirds in counts:
+        pieces = [(voids, breath(0, 0)), (zeros, breath(0, 1)), (thirds, breath(1, 3))]
+        if len(night.listing(recording(pieces))) == length:
+            return pieces
+    raise AssertionError(length)
+
+
+def rows_numbered():
+    """Line numbers of each number of digits, good and refused."""
+    for count in (9, 10, 11, 99, 100, 101, 999, 1000, 1001, 9999, 10000, 10001):
+        yield [(count, GOOD)]
+        yield [(count, GOOD), (1, b"x\n")]
+
+
+# 4. Random recordings.
+
+
+def random_breath(rng):
+    """A line for a random breath: real-looking, of any ticks, or of few."""
+    sort = rng.getrandbits(2)
+    if sort == 0:
+        return breath(rng.getrandbits(8), 200 + rng.getrandbits(9), rng.getrandbits(32))
+    if sort == 1:
+        return line(*(rng.getrandbits(32) for _ in range(3)))
+    if sort == 2:
+        return line(*(rng.getrandbits(1 + rng.getrandbits(5)) for _ in range(3)))
+    whole = 1 + rng.getrandbits(1 + rng.getrandbits(4) * 2)
+    return breath(rng.getrandbits(32) % (whole + 1), whole, rng.getrandbits(32))
+
+
+def random_recordings():
+    """Good recordings of a few breaths."""
+    rng = random.Random(80)
+    for _ in range(150):
+        count = 1 + rng.getrandbits(4)
+        yield once(*(random_breath(rng) for _ in range(count)))
+
+
+def following_breaths():
+    """Recordings where each breath begins at the next onset of the one before."""
+    rng = random.Random(81)
+    for _ in range(40):
+        onset = rng.getrandbits(32)
+        texts = []
+        for _ in range(1 + rng.getrandbits(5)):
+            whole = 200 + rng.getrandbits(9)
+            texts.append(breath(rng.getrandbits(8), whole, onset))
+            onset = (onset + whole) % night.CLOCK
+        yield once(*texts)
+
+
+def damaged_recordings():
+    """Recordings with a few bytes changed, lost or put in."""
+    rng = random.Random(82)
+    for _ in range(250):
+        text = b"".join(random_breath(rng) for _ in range(1 + rng.getrandbits(3)))
+        for _ in range(1 + rng.getrandbits(1)):
+            text = damaged(rng, text)
+        yield once(text)
+
+
+def damaged(rng, text):
+    """The bytes with one of them changed, lost or put in, or cut off there."""
+    place = rng.getrandbits(16) % len(text) if text else 0
+    byte = bytes([chosen(rng, b"\t\t\n\n0123456789 -+\r\0\xff")])
+    sort = rng.getrandbits(2)
+    if sort == 0:
+        return text[:place] + byte + text[place + 1 :]
+    if sort == 1:
+        return text[:place] + text[place + 1 :]
+    if sort == 2:
+        return text[:place] + byte + text[place:]
+    return text[:place] if rng.getrandbits(1) else text[:place] + text[place:] * 2
+
+
+GROUPS = [
+    the_example,
+    wrapped_clocks,
+    void_breaths,
+    void_and_good,
+    ends_of_the_ratio,
+    percentages,
+    percentages_of_the_fraction,
+    large_ratios,
+    widest_lines,
+    line_feed_missing,
+    empty_lines,
+    fields_in_number,
+    empty_fields,
+    leading_zeros,
+    largest_numbers,
+    strange_bytes,
+    every_byte,
+    first_stop,
+    no_line,
+    most_lines,
+    bad_last_lines,
+    widest_recordings,
+    largest_sums,
+    listings_about_as_long_as_shown,
+    rows_numbered,
+    random_recordings,
+    following_breaths,
+    damaged_recordings,
+]
