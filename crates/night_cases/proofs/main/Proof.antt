@@ -1,0 +1,83 @@
+-- `night_cases::main` meets its contract. Assumes nothing.
+use lib.ListN.{length}
+use mathlib.Core.Path.{_≡_}
+use borrow.Author.Needs.{needs}
+use Rattle.night_cases.proofs.main.Statement.{statement}
+use Rattle.night_cases.proofs.main.Tie as tie
+
+abbrev Inv-loop : tie.InvT-loop
+Inv-loop input₀ bytes₀ listing₀ r₀ left₀ input bytes listing r left = (65536 ≡ length input) × (2300000 ≡ length bytes)
+
+abbrev μ-loop : tie.MeasureT-loop
+μ-loop input₀ bytes₀ listing₀ r₀ left₀ input bytes listing r left = left
+
+large-buffer-requires : tie.Need-large-buffer-requires Inv-loop μ-loop
+large-buffer-requires c κs = search needs
+
+recording-buffer-requires : tie.Need-recording-buffer-requires Inv-loop μ-loop
+recording-buffer-requires c κs = search needs
+
+listing-buffer-requires : tie.Need-listing-buffer-requires Inv-loop μ-loop
+listing-buffer-requires c κs = search needs
+
+begun-requires : tie.Need-begun-requires Inv-loop μ-loop
+begun-requires c κs = search needs
+
+loop-holds : tie.Need-loop-holds Inv-loop μ-loop
+loop-holds c = search needs
+
+slice-aggregate-read-full : tie.Need-slice-aggregate-read-full Inv-loop μ-loop
+slice-aggregate-read-full c = search needs
+
+read-full-requires : tie.Need-read-full-requires Inv-loop μ-loop
+read-full-requires c κs = search needs
+
+returns : tie.Need-returns Inv-loop μ-loop
+returns c = search needs
+
+array-share-prefix-input : tie.Need-array-share-prefix-input Inv-loop μ-loop
+array-share-prefix-input c = search needs
+
+slice-aggregate-fed-all : tie.Need-slice-aggregate-fed-all Inv-loop μ-loop
+slice-aggregate-fed-all c = search needs
+
+slice-aggregate-fed-all-2 : tie.Need-slice-aggregate-fed-all-2 Inv-loop μ-loop
+slice-aggregate-fed-all-2 c = search needs
+
+fed-all-requires : tie.Need-fed-all-requires Inv-loop μ-loop
+fed-all-requires c κs = search needs
+
+sub-left : tie.Need-sub-left Inv-loop μ-loop
+sub-left c = search needs
+
+loop-less : tie.Need-loop-less Inv-loop μ-loop
+loop-less c = search needs
+
+loop-again : tie.Need-loop-again Inv-loop μ-loop
+loop-again c = search needs
+
+returns-2 : tie.Need-returns-2 Inv-loop μ-loop
+returns-2 c = search needs
+
+pub main-spec : {M : Type 1} → statement M
+main-spec =
+    tie.close
+    (tie.spec
+    Inv-loop
+    μ-loop
+    large-buffer-requires
+    recording-buffer-requires
+    listing-buffer-requires
+    begun-requires
+    loop-holds
+    slice-aggregate-read-full
+    read-full-requires
+    returns
+    array-share-prefix-input
+    slice-aggregate-fed-all
+    slice-aggregate-fed-all-2
+    fed-all-requires
+    sub-left
+    loop-less
+    loop-again
+    returns-2)

@@ -1,0 +1,78 @@
+// Runs recipes for recordings from standard input, one a line, and writes the listing of each, or
+// its length, checksum and end where it is long. tests/second writes the recipes and what the
+// answers must be.
+mod recipe;
+mod show;
+
+ghost use mathlib.Core.Path.{_≡_};
+ghost use lib.ListN.{length};
+use libc::STDIN_FILENO;
+use recipe::Recipe;
+
+fn recording_buffer() -> [u8; 2300000]
+    ensures { λ r. ⌜ 2300000 ≡ length r ⌝ }
+{
+    [0; 2300000]
+}
+
+fn listing_buffer() -> [u8; 2162719]
+    ensures { λ r. ⌜ 2162719 ≡ length r ⌝ }
+{
+    [0; 2162719]
+}
+
+// The listing of the recording that a recipe made.
+fn run(r: Recipe, bytes: &[u8], listing: &mut [u8; 2162719]) {
+    let n = r.end;
+    if n <= bytes.len() {
+        let k = recording::list(&bytes[..n], listing);
+        show::listing(listing, k);
+    }
+    show::text(b"\n");
+}
+
+// The recipe with one byte more. At a line feed it is run, and a new one begins.
+fn fed(r: Recipe, b: u8, bytes: &mut [u8], listing: &mut [u8; 2162719]) -> Recipe {
+    if r.stage == recipe::COMMENT {
+        show::byte(b);
+        if b == b'\n' { recipe::begun() } else { r }
+    } else if b == b'\n' {
+        run(recipe::ended(r, bytes), bytes, listing);
+        recipe::begun()
+    } else if b == b' ' {
+        recipe::ended(r, bytes)
+    } else if b == b'#' {
+        show::byte(b);
+        recipe::comment()
+    } else {
+        recipe::continued(r, b, bytes)
+    }
+}
+
+// The recipe after some bytes more.
+fn fed_all(r: Recipe, input: &[u8], bytes: &mut [u8], listing: &mut [u8; 2162719]) -> Recipe {
+    let mut next = r;
+    let mut i = 0;
+    while i < input.len() {
+        next = fed(next, input[i], bytes, listing);
+        i += 1;
+    }
+    next
+}
+
+fn main() {
+    let mut input = io::large_buffer();
+    let mut bytes = recording_buffer();
+    let mut listing = listing_buffer();
+    let mut r = recipe::begun();
+    // At most so many buffers, since a program has to end.
+    let mut left: u64 = 1000000;
+    while left > 0 {
+        let n = io::read_full(STDIN_FILENO, &mut input);
+        if n == 0 {
+            return;
+        }
+        r = fed_all(r, &input[..n], &mut bytes, &mut listing);
+        left -= 1;
+    }
+}

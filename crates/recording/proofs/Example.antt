@@ -1,0 +1,19 @@
+-- The paper's example holds of the definitions. Assumes nothing.
+use mathlib.Core.Path.{_≡_, refl}
+use Rattle.convergents.specs.Pairs.{differs}
+use Rattle.convergents.specs.Convergents.{euclid, quotients, recurrence, convergents}
+use Rattle.convergents.specs.Rounding.{held, lastHeld, round}
+use Rattle.slash.specs.Bits.{bits, bit, bitOf, fields}
+use Rattle.slash.specs.Formats.{holds}
+use Rattle.slash.specs.Words.{fixedValue, fixedNumber, numberOf, fixedWord, pairWord, wordFor, pairOf}
+use Rattle.recording.specs.Text.{decimalFrom, decimal, hexDigit, hexadecimal}
+use Rattle.recording.specs.Breaths.{span, breathOf, isVoid, ratioWord, breathRatio, withBreath, noneLeft, nightRatio, wordOf}
+use Rattle.recording.specs.Lines.{isDigit, digitsFrom, readMark, lengthBefore, fromMarks, fromFields, readLine}
+use Rattle.recording.specs.Lines.{fields as line-fields}
+use Rattle.recording.specs.Columns.{fractionOf, thousandths, percentage, fractionText, shares, columns}
+use Rattle.recording.specs.Listing.{breathLine, allLine, refusedLine, listingFrom, listingOf}
+use Rattle.recording.specs.Example.{exampleRecording, exampleListing}
+
+pub paper-example : listingOf exampleRecording ≡ exampleListing
+unfolding exampleRecording exampleListing listingOf listingFrom breathLine allLine refusedLine readLine line-fields fromFields fromMarks lengthBefore readMark digitsFrom isDigit columns shares wordOf fractionText percentage thousandths fractionOf breathRatio nightRatio noneLeft withBreath ratioWord isVoid breathOf span decimal decimalFrom hexadecimal hexDigit wordFor pairWord fixedWord fields bitOf pairOf numberOf fixedNumber fixedValue bits bit round lastHeld held convergents recurrence quotients euclid differs holds
+paper-example = refl

@@ -1,0 +1,9 @@
+-- The laws that the functions' proofs cite, and what follows from the definitions.
+pub mod TextLaws
+pub mod RatioLaws
+pub mod ColumnLaws
+pub mod LineLaws
+pub mod ListingLaws
+pub mod Bounds
+pub mod Marks
+pub mod Example

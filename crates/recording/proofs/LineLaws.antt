@@ -1,0 +1,352 @@
+-- Reading a line: where a byte stands first, digits, fields. Assumes nothing.
+use mathlib.Core.Path.{_≡_, refl, sym, ap, _∙_, subst}
+use mathlib.Core.Bool.{Bool, true, false, _&&_}
+use mathlib.Core.Logic.{_⊎_, inl, inr}
+use mathlib.Core.List.{List, [], _∷_}
+use Prim.Native.Nat.{ℕ, suc, _+_, _-_, _*_, _^_, _≤_, _<_, min}
+use native.Mathlib.Omega.{arith}
+use native.Mathlib.Nat.{mod-lt}
+use native.Mathlib.Numerals.{add-one}
+use native.Mathlib.Decide.{decLe}
+use lib.Dec.{eqb, leb}
+use lib.ListN.{length, getD, take, drop, length-take, length-drop}
+use lib.Seq.{drop-cons, take-all, drop-length}
+use borrow.Author.Tests.{eq-eqb, ne-eqb, le-leb, lt-leb, lt-ltb}
+use Rattle.recording.specs.Breaths.{span, breathOf}
+use Rattle.recording.specs.Lines.{isDigit, digitsFrom, readMark, lengthBefore, inFirst, fields, fromMarks, fromFields, readLine}
+use Rattle.recording.specs.declared.breath.Breath.{Breath}
+use Rattle.recording.specs.declared.line.Mark.{Mark}
+use Rattle.recording.specs.declared.line.Mark.the-variants.{Tick, Wrong}
+use Rattle.recording.specs.declared.line.Entry.{Entry}
+use Rattle.recording.specs.declared.line.Line.{Line}
+use Rattle.recording.specs.declared.line.Line.the-variants.{Read, Refused}
+
+-- past the end nothing is left
+drop-past : (bs : List ℕ) (i : ℕ) → i ≡ length bs → drop i bs ≡ []
+drop-past bs i e = ap (λ (j : ℕ). drop j bs) e ∙ drop-length bs
+
+-- ---- the first place of a byte
+
+module _ (b : ℕ) where
+  before-step : (x : ℕ) (xs : List ℕ) (t : Bool) → eqb x b ≡ t → lengthBefore b (x ∷ xs) ≡ elim t [ true ↦ 0 | false ↦ suc (lengthBefore b xs) ]
+  unfolding lengthBefore
+  before-step x xs t e = ap (λ (y : Bool). elim y as (λ z. ℕ) [ true ↦ 0 | false ↦ suc (lengthBefore b xs) ]) e
+
+  before-nil : lengthBefore b [] ≡ 0
+  unfolding lengthBefore
+  before-nil = refl
+
+  pub before-le : (bs : List ℕ) → lengthBefore b bs ≤ length bs
+  before-le [] = omega (arith, before-nil)
+  before-le (x ∷ xs) = go (eqb x b) refl (before-le xs)
+    where
+      go : (t : Bool) → eqb x b ≡ t → lengthBefore b xs ≤ length xs → lengthBefore b (x ∷ xs) ≤ suc (length xs)
+      go true e h = omega (arith, before-step x xs true e)
+      go false e h = omega (arith, before-step x xs false e)
+
+pub record Seeking (b : ℕ) (bs : List ℕ) (i : ℕ) : Type 0 where
+  pub within : i ≤ length bs
+  pub total : i + lengthBefore b (drop i bs) ≡ lengthBefore b bs
+
+pub seeking-start : (b : ℕ) (bs : List ℕ) → Seeking b bs 0
+seeking-start b bs = record { within = omega arith; total = omega arith }
+
+module _ {b : ℕ} {bs : List ℕ} {i : ℕ} (s : Seeking b bs i) where
+  here : i < length bs → (t : Bool) → eqb (getD bs i 0) b ≡ t
+      → lengthBefore b (drop i bs) ≡ elim t [ true ↦ 0 | false ↦ suc (lengthBefore b (drop (i + 1) bs)) ]
+  here l t e =
+      ap (lengthBefore b) (drop-cons bs i 0 l) ∙ before-step b (getD bs i 0) (drop (suc i) bs) t e
+      ∙ ap (λ (j : ℕ). elim t as (λ z. ℕ) [ true ↦ 0 | false ↦ suc (lengthBefore b (drop j bs)) ]) (sym (add-one i))
+
+  pub seeking-found : i < length bs → getD bs i 0 ≡ b → (i ≤ length bs) × (i ≡ lengthBefore b bs)
+  seeking-found l e = (s .within, omega (arith, s .total, here l true (eq-eqb _ _ e)))
+
+  pub seeking-next : i < length bs → (getD bs i 0 ≡ b → ⊥) → Seeking b bs (i + 1)
+  seeking-next l e = record { within = omega arith; total = omega (arith, s .total, here l false (ne-eqb _ _ e)) }
+
+  pub seeking-end : length bs ≤ i → (i ≤ length bs) × (i ≡ lengthBefore b bs)
+  seeking-end l =
+      let e : i ≡ length bs = omega (arith, s .within) in
+      (s .within, omega (arith, s .total, ap (lengthBefore b) (drop-past bs i e), before-nil b))
+
+-- ---- digits
+
+pub digits-step : (v x : ℕ) (xs : List ℕ) (t : Bool) → (isDigit x && leb (v * 10 + (x - 48)) 4294967295) ≡ t
+    → digitsFrom v (x ∷ xs) ≡ elim t [ true ↦ digitsFrom (v * 10 + (x - 48)) xs | false ↦ Wrong ]
+unfolding digitsFrom
+digits-step v x xs t e = ap (λ (y : Bool). elim y as (λ z. Mark) [ true ↦ digitsFrom (v * 10 + (x - 48)) xs | false ↦ Wrong ]) e
+
+module _ (x : ℕ) where
+  digit-low : x < 48 → (t : Bool) → (isDigit x && t) ≡ false
+  unfolding isDigit
+  digit-low h t = rw (lt-leb 48 x h) refl
+
+  digit-high : 57 < x → (t : Bool) → (isDigit x && t) ≡ false
+  unfolding isDigit
+  digit-high h t = rw (le-leb 48 x (omega arith), lt-leb x 57 h) refl
+
+  pub digit-good : 48 ≤ x → x ≤ 57 → (t : Bool) → (isDigit x && t) ≡ t
+  unfolding isDigit
+  digit-good h l t = rw (le-leb 48 x h, le-leb x 57 l) refl
+
+pub record Digits (ds : List ℕ) (v i : ℕ) : Type 0 where
+  pub within : i ≤ length ds
+  pub small : v ≤ 4294967295
+  pub total : digitsFrom v (drop i ds) ≡ digitsFrom 0 ds
+
+pub digits-start : (ds : List ℕ) → Digits ds 0 0
+digits-start ds = record { within = omega arith; small = omega arith; total = refl }
+
+module _ {ds : List ℕ} {v i : ℕ} (d : Digits ds v i) where
+  pub digits-end : length ds ≤ i → Tick v ≡ digitsFrom 0 ds
+  unfolding digitsFrom
+  digits-end l =
+      let e : i ≡ length ds = omega (arith, d .within) in
+      sym (ap (digitsFrom v) (drop-past ds i e)) ∙ d .total
+
+  module _ (l : i < length ds) where
+    turn : (t : Bool) → (isDigit (getD ds i 0) && leb (v * 10 + (getD ds i 0 - 48)) 4294967295) ≡ t
+        → elim t [ true ↦ digitsFrom (v * 10 + (getD ds i 0 - 48)) (drop (i + 1) ds) | false ↦ Wrong ] ≡ digitsFrom 0 ds
+    turn t e =
+        ap (λ (j : ℕ). elim t as (λ z. Mark) [ true ↦ digitsFrom (v * 10 + (getD ds i 0 - 48)) (drop j ds) | false ↦ Wrong ]) (add-one i)
+        ∙ sym (ap (digitsFrom v) (drop-cons ds i 0 l) ∙ digits-step v (getD ds i 0) (drop (suc i) ds) t e)
+        ∙ d .total
+
+    pub digits-low : getD ds i 0 < 48 → Wrong ≡ digitsFrom 0 ds
+    digits-low h = turn false (digit-low _ h _)
+
+    pub digits-high : 57 < getD ds i 0 → Wrong ≡ digitsFrom 0 ds
+    digits-high h = turn false (digit-high _ h _)
+
+    module _ (low : 48 ≤ getD ds i 0) (high : getD ds i 0 ≤ 57) where
+      pub digits-above : 4294967295 < v * 10 + (getD ds i 0 - 48) → Wrong ≡ digitsFrom 0 ds
+      digits-above h = turn false (digit-good _ low high _ ∙ lt-leb _ _ h)
+
+      pub digits-next : v * 10 + (getD ds i 0 - 48) ≤ 4294967295 → Digits ds (v * 10 + (getD ds i 0 - 48)) (i + 1)
+      digits-next h = record { within = omega arith; small = h; total = turn true (digit-good _ low high _ ∙ le-leb _ _ h) }
+
+-- ---- a tick mark
+
+and-false : (t : Bool) → (t && false) ≡ false
+and-false true = refl
+and-false false = refl
+
+module _ (f : List ℕ) where
+  pub mark-empty : length f ≡ 0 → Wrong ≡ readMark f
+  unfolding readMark
+  mark-empty h = go f h
+    where
+      go : (g : List ℕ) → length g ≡ 0 → Wrong ≡ readMark g
+      go [] e = refl
+      go (x ∷ xs) e = absurd (omega arith)
+
+  pub mark-leading : getD f 0 0 ≡ 48 → 1 < length f → Wrong ≡ readMark f
+  unfolding readMark
+  mark-leading e l = go f e l
+    where
+      go : (g : List ℕ) → getD g 0 0 ≡ 48 → 1 < length g → Wrong ≡ readMark g
+      go [] z h = absurd (omega arith)
+      go (x ∷ xs) z h = let p : 0 < length xs = omega arith in rw (eq-eqb x 48 z, lt-ltb 0 (length xs) p) refl
+
+  pub mark-digits : 1 ≤ length f → (getD f 0 0 ≡ 48 → ⊥) ⊎ (length f ≤ 1) → digitsFrom 0 f ≡ readMark f
+  unfolding readMark
+  mark-digits l w = go f l w
+    where
+      go : (g : List ℕ) → 1 ≤ length g → (getD g 0 0 ≡ 48 → ⊥) ⊎ (length g ≤ 1) → digitsFrom 0 g ≡ readMark g
+      go [] h z = absurd (omega arith)
+      go (x ∷ []) h (inl n) = rw (ne-eqb x 48 n) refl
+      go (x ∷ y ∷ ys) h (inl n) = rw (ne-eqb x 48 n) refl
+      go (x ∷ []) h (inr s) = rw (and-false (eqb x 48)) refl
+      go (x ∷ y ∷ ys) h (inr s) = absurd (omega arith)
+
+-- ---- three marks
+
+module _ (used : ℕ) (onset peak next : Mark) where
+  pub marks-onset : onset ≡ Wrong → Refused 11 ≡ fromMarks used onset peak next
+  unfolding fromMarks
+  marks-onset e = rw e refl
+
+  module _ (o : ℕ) (oe : onset ≡ Tick o) where
+    pub marks-peak : peak ≡ Wrong → Refused 11 ≡ fromMarks used onset peak next
+    unfolding fromMarks
+    marks-peak e = rw (oe, e) refl
+
+    module _ (p : ℕ) (pe : peak ≡ Tick p) where
+      pub marks-next : next ≡ Wrong → Refused 11 ≡ fromMarks used onset peak next
+      unfolding fromMarks
+      marks-next e = rw (oe, pe, e) refl
+
+      pub marks-read : (n : ℕ) → next ≡ Tick n → (b : Breath) → b ≡ breathOf o p n
+          → Read (record { breath = b; used = used }) ≡ fromMarks used onset peak next
+      unfolding fromMarks
+      marks-read n e b be = rw (oe, pe, e, be) refl
+
+-- ---- fields
+
+fields-step : (x : ℕ) (xs : List ℕ) (t : Bool) → eqb x 9 ≡ t → fields (x ∷ xs) ≡ elim t [ true ↦ [] ∷ fields xs | false ↦ inFirst x (fields xs) ]
+unfolding fields
+fields-step x xs t e = ap (λ (y : Bool). elim y as (λ z. List (List ℕ)) [ true ↦ [] ∷ fields xs | false ↦ inFirst x (fields xs) ]) e
+
+fields-nil : fields [] ≡ [] ∷ []
+unfolding fields
+fields-nil = refl
+
+-- with no tab the line is one field
+fields-whole : (bs : List ℕ) → lengthBefore 9 bs ≡ length bs → fields bs ≡ bs ∷ []
+fields-whole [] h = fields-nil
+fields-whole (x ∷ xs) h = go (eqb x 9) refl (fields-whole xs)
+  where
+    go : (t : Bool) → eqb x 9 ≡ t → (lengthBefore 9 xs ≡ length xs → fields xs ≡ xs ∷ []) → fields (x ∷ xs) ≡ (x ∷ xs) ∷ []
+    go true e ih = absurd (omega (arith, before-step 9 x xs true e))
+    go false e ih = fields-step x xs false e ∙ ap (inFirst x) (ih (omega (arith, before-step 9 x xs false e)))
+
+-- else it is what stands before the first tab, and the fields of what stands behind it
+fields-cut : (bs : List ℕ) → lengthBefore 9 bs < length bs → fields bs ≡ take (lengthBefore 9 bs) bs ∷ fields (drop (suc (lengthBefore 9 bs)) bs)
+fields-cut [] h = absurd (omega arith)
+fields-cut (x ∷ xs) h = go (eqb x 9) refl (fields-cut xs)
+  where
+    go : (t : Bool) → eqb x 9 ≡ t
+        → (lengthBefore 9 xs < length xs → fields xs ≡ take (lengthBefore 9 xs) xs ∷ fields (drop (suc (lengthBefore 9 xs)) xs))
+        → fields (x ∷ xs) ≡ take (lengthBefore 9 (x ∷ xs)) (x ∷ xs) ∷ fields (drop (suc (lengthBefore 9 (x ∷ xs))) (x ∷ xs))
+    go true e ih = fields-step x xs true e ∙ rw (before-step 9 x xs true e) refl
+    go false e ih =
+        fields-step x xs false e ∙ ap (inFirst x) (ih (omega (arith, before-step 9 x xs false e))) ∙ rw (before-step 9 x xs false e) refl
+
+pub record Some (l : List (List ℕ)) : Type 0 where
+  pub first : List ℕ
+  pub others : List (List ℕ)
+  pub is : l ≡ first ∷ others
+
+in-first : (x : ℕ) (l : List (List ℕ)) → Some (inFirst x l)
+in-first x [] = record { first = x ∷ []; others = []; is = refl }
+in-first x (f ∷ o) = record { first = x ∷ f; others = o; is = refl }
+
+fields-some : (bs : List ℕ) → Some (fields bs)
+fields-some [] = record { first = []; others = []; is = fields-nil }
+fields-some (x ∷ xs) = go (eqb x 9) refl
+  where
+    go : (t : Bool) → eqb x 9 ≡ t → Some (fields (x ∷ xs))
+    go true e = record { first = []; others = fields xs; is = fields-step x xs true e }
+    go false e = subst Some (sym (fields-step x xs false e)) (in-first x (fields xs))
+
+-- what stands behind place i, as code has it: a part of a list that runs to its end
+abbrev pub behind : ℕ → List ℕ → List ℕ
+behind i l = take (length l - (i + 1)) (drop (i + 1) l)
+
+pub tail-is : (n : ℕ) (l : List ℕ) → take (length l - n) (drop n l) ≡ drop n l
+tail-is n l = take-all (length l - n) (drop n l) (omega (arith, length-drop n l))
+
+-- what stands before the first tab, and the fields of the rest
+cut : (line : List ℕ) (i : ℕ) → i ≡ lengthBefore 9 line → i < length line → fields line ≡ take i line ∷ fields (behind i line)
+cut line i ie l =
+    fields-cut line (omega arith)
+    ∙ ap (λ (k : ℕ). take k line ∷ fields (drop (suc k) line)) (sym ie)
+    ∙ ap (λ (k : ℕ). take i line ∷ fields (drop k line)) (sym (add-one i))
+    ∙ ap (λ (u : List ℕ). take i line ∷ fields u) (sym (tail-is (i + 1) line))
+
+module _ (used : ℕ) (line : List ℕ) (i : ℕ) (ie : i ≡ lengthBefore 9 line) where
+  pub fields-one : i ≡ length line → Refused 10 ≡ fromFields used (fields line)
+  unfolding fromFields
+  fields-one e = rw (fields-whole line (sym ie ∙ e)) refl
+
+  module _ (l : i < length line) (j : ℕ) (je : j ≡ lengthBefore 9 (behind i line)) where
+    pub fields-two : j ≡ length (behind i line) → Refused 10 ≡ fromFields used (fields line)
+    unfolding fromFields
+    fields-two e = rw (cut line i ie l, fields-whole (behind i line) (sym je ∙ e)) refl
+
+    module _ (m : j < length (behind i line)) (k : ℕ) (ke : k ≡ lengthBefore 9 (behind j (behind i line))) where
+      pub fields-four : k < length (behind j (behind i line)) → Refused 10 ≡ fromFields used (fields line)
+      unfolding fromFields
+      fields-four n =
+          let last : List ℕ = behind j (behind i line) in
+          let s = fields-some (behind k last) in
+          rw (cut line i ie l, cut (behind i line) j je m, cut last k ke n, s .is) refl
+
+      pub fields-three : length (behind j (behind i line)) ≤ k → (x y z : Mark)
+          → x ≡ readMark (take i line) → y ≡ readMark (take j (behind i line)) → z ≡ readMark (behind j (behind i line))
+          → (r : Line) → r ≡ fromMarks used x y z → r ≡ fromFields used (fields line)
+      unfolding fromFields
+      fields-three n x y z xe ye ze r e =
+          let last : List ℕ = behind j (behind i line) in
+          let whole : lengthBefore 9 last ≡ length last = omega (arith, before-le 9 last) in
+          e ∙ rw (xe, ye, ze, cut line i ie l, cut (behind i line) j je m, fields-whole last whole) refl
+
+-- ---- a line
+
+pub line-within : (bs : List ℕ) (most k : ℕ) → k ≤ length (take most bs) → k ≤ length bs
+line-within bs most k h = omega (arith, length-take most bs)
+
+module _ (bs : List ℕ) (most : ℕ) (me : most ≡ min 33 (length bs)) where
+  head-is : take most bs ≡ take 33 bs
+  head-is = go (decLe 33 (length bs))
+    where
+      go : Dec (33 ≤ length bs) → take most bs ≡ take 33 bs
+      go (yes h) = let e : most ≡ 33 = omega arith in ap (λ (n : ℕ). take n bs) e
+      go (no h) = take-all most bs (omega arith) ∙ sym (take-all 33 bs (omega arith))
+
+  module _ (k : ℕ) (ke : k ≡ lengthBefore 10 (take most bs)) where
+    place : lengthBefore 10 (take 33 bs) ≡ k
+    place = sym (ke ∙ ap (lengthBefore 10) head-is)
+
+    pub line-none : k ≡ length (take most bs) → Refused 9 ≡ readLine bs
+    unfolding readLine
+    line-none e =
+        let h : length (take 33 bs) ≤ k = omega (arith, ap length head-is) in
+        rw (place, le-leb _ _ h) refl
+
+    pub line-some : k < length (take most bs) → (r : Line) → r ≡ fromFields (k + 1) (fields (take k bs)) → r ≡ readLine bs
+    unfolding readLine
+    line-some l r e =
+        let h : k < length (take 33 bs) = omega (arith, ap length head-is) in
+        e ∙ ap (λ (n : ℕ). fromFields n (fields (take k bs))) (add-one k) ∙ rw (place, lt-leb _ _ h) refl
+
+-- ---- what holds of every line that is read
+
+-- It uses from 1 to 33 of the bytes, and its durations are below 2^32; a stop's number has at most two digits.
+pub record Whole (bs : List ℕ) (e : Entry) : Type 0 where
+  pub some : 1 ≤ e .used
+  pub within : e .used ≤ length bs
+  pub short : e .used ≤ 33
+  pub small : e .breath .whole < 2 ^ 32
+
+abbrev pub Sound : List ℕ → Line → Type 0
+Sound bs (Read e) = Whole bs e
+Sound bs (Refused stop) = stop < 100
+
+module _ (bs : List ℕ) (used : ℕ) (some : 1 ≤ used) (within : used ≤ length bs) (short : used ≤ 33) where
+  marks-sound : (onset peak next : Mark) → Sound bs (fromMarks used onset peak next)
+  unfolding fromMarks breathOf span
+  marks-sound (Tick o) (Tick p) (Tick n) =
+      record { some = some; within = within; short = short; small = mod-lt (n + (2 ^ 32 - o)) (omega arith) }
+  marks-sound Wrong p n = omega arith
+  marks-sound (Tick o) Wrong n = omega arith
+  marks-sound (Tick o) (Tick p) Wrong = omega arith
+
+  fields-sound : (l : List (List ℕ)) → Sound bs (fromFields used l)
+  unfolding fromFields
+  fields-sound [] = omega arith
+  fields-sound (x ∷ []) = omega arith
+  fields-sound (x ∷ y ∷ []) = omega arith
+  fields-sound (x ∷ y ∷ z ∷ []) = marks-sound (readMark x) (readMark y) (readMark z)
+  fields-sound (x ∷ y ∷ z ∷ v ∷ more) = omega arith
+
+module _ (bs : List ℕ) where
+  line-nine : length (take 33 bs) ≤ lengthBefore 10 (take 33 bs) → Refused 9 ≡ readLine bs
+  unfolding readLine
+  line-nine h = rw (le-leb _ _ h) refl
+
+  line-read : lengthBefore 10 (take 33 bs) < length (take 33 bs)
+      → fromFields (suc (lengthBefore 10 (take 33 bs))) (fields (take (lengthBefore 10 (take 33 bs)) bs)) ≡ readLine bs
+  unfolding readLine
+  line-read h = rw (lt-leb _ _ h) refl
+
+  pub line-sound : Sound bs (readLine bs)
+  line-sound = go (decLe (length (take 33 bs)) (lengthBefore 10 (take 33 bs)))
+    where
+      go : Dec (length (take 33 bs) ≤ lengthBefore 10 (take 33 bs)) → Sound bs (readLine bs)
+      go (yes h) = let nine : 9 < 100 = omega arith in subst (Sound bs) (line-nine h) nine
+      go (no h) =
+          let k : ℕ = lengthBefore 10 (take 33 bs) in
+          let l : k < length (take 33 bs) = omega arith in
+          let t = length-take 33 bs in
+          subst (Sound bs) (line-read l) (fields-sound bs (suc k) (omega arith) (omega (arith, l, t)) (omega (arith, l, t)) (fields (take k bs)))

@@ -1,0 +1,271 @@
+-- Ratios: durations, what is void, and that the word of a ratio from 0 to 1 is a fraction from 0 to 1. Assumes nothing.
+use mathlib.Core.Path.{_≡_, refl, sym, ap, _∙_, subst}
+use mathlib.Core.Bool.{Bool, true, false, _&&_, _||_}
+use mathlib.Core.Logic.{⊎-elim}
+use Prim.Native.Nat.{ℕ, zero, suc, _+_, _*_, _%_, _^_, _≤_, _<_}
+use native.Mathlib.Omega.{arith}
+use native.Mathlib.Nat.{mul-le-mul-left, mul-le-mul-right}
+use native.Mathlib.Decide.{decLe, ℕ-discrete}
+use lib.Dec.{eqb, ltb}
+use borrow.Author.Tests.{eqb-true, eqb-false, leb-false, ltb-false, eq-eqb, ne-eqb}
+use Rattle.convergents.specs.Pairs.{Pair, pair}
+use Rattle.convergents.specs.Rounding.{Limit, held}
+use Rattle.convergents.specs.Best.{Best}
+use Rattle.convergents.proofs.Optimal.{held-is}
+use Rattle.convergents.proofs.Theorem.{round-best}
+use Rattle.slash.specs.Answers.{stop, done, outcome, WhenDone}
+use Rattle.slash.specs.Formats.{known, widthOf, holds}
+use Rattle.slash.specs.Rounding.{rounded}
+use Rattle.slash.specs.Words.{wordFor, isOverZero, isAbove, wordStop, writeNumber, BestFor, BestWord}
+use Rattle.slash.specs.Canonical.{CanonicalWord}
+use Rattle.slash.specs.declared.answer.Answer.{Answer}
+use Rattle.slash.specs.declared.answer.Answer.the-variants as Answer
+use Rattle.slash.specs.declared.answer.Stop.{Stop}
+use Rattle.slash.specs.declared.format.Format.{Format}
+use Rattle.slash.specs.declared.number.Number.{Number}
+use Rattle.slash.specs.declared.number.Parts.{Parts}
+use Rattle.slash.specs.declared.number.Value.the-variants.{Fraction}
+use Rattle.slash.proofs.AnswerLaws.{done-inj}
+use Rattle.slash.proofs.WordLaws.{stop-above}
+use Rattle.slash.proofs.FormatLaws.{format-limit, fixed-holds}
+use Rattle.slash.proofs.WriteLaws.{word-rounded, write-done}
+use Rattle.slash.proofs.Canonical.{written-canonical, read-says}
+use Rattle.recording.specs.Breaths.{span, breathOf, isVoid, format, ratioWord, breathRatio, withBreath, noneLeft, nightRatio, BestRatio}
+use Rattle.recording.specs.Columns.{fractionOf}
+use Rattle.recording.specs.Stores.{Readable, Shown, ShownRatio, Proper}
+use Rattle.recording.specs.declared.breath.Breath.{Breath}
+use Rattle.recording.specs.declared.breath.Sums.{Sums}
+use Rattle.recording.specs.declared.ratio.Ratio.{Ratio}
+use Rattle.recording.specs.declared.ratio.Ratio.the-variants.{Void, Word}
+
+-- a difference modulo 2^32 is the one number that leads from the first mark to the second
+pub span-is : (from to r : ℕ) → from < 2 ^ 32 → r < 2 ^ 32 → (r + from) % 2 ^ 32 ≡ to → r ≡ span from to
+unfolding span
+span-is from to r f h e = omega arith
+
+pub between-is : (onset peak next i w : ℕ) → onset < 2 ^ 32 → i < 2 ^ 32 → w < 2 ^ 32
+    → (i + onset) % 2 ^ 32 ≡ peak → (w + onset) % 2 ^ 32 ≡ next → record { inspiration = i; whole = w } ≡ breathOf onset peak next
+unfolding breathOf
+between-is onset peak next i w o h l e f = rw (span-is onset peak i o h e, span-is onset next w o l f) refl
+
+-- ---- the best pair for a ratio from 0 to 1 is one too
+
+module _ (limit : ℕ → ℕ → Bool) (lim : Limit limit) (N D : ℕ) (pos : 1 ≤ D) (l : N ≤ D) where
+  -- 0/1 does better than 1/0
+  finite : (r : ℕ) → Best limit N D (pair r 0) → ⊥
+  unfolding held
+  finite r b =
+      let one : r ≡ 1 = eqb-true r 1 (b .isHeld) in
+      let zero-held : held limit (pair 0 1) ≡ true = lim .downward 1 1 0 1 (lim .one) (omega arith) (omega arith) (omega arith) in
+      let differ : pair 0 1 ≡ pair r 0 → ⊥ = λ e. let z : _≡_ {A = ℕ} 1 0 = ap (λ (x : Pair). x .denominator) e in omega arith in
+      ⊎-elim (λ h. omega (arith, ap (λ (x : ℕ). x * D) one)) (λ h. omega (arith, ap (λ (x : ℕ). x * D) one, h .0)) (b .better (pair 0 1) zero-held differ)
+
+  -- 1/1 does better than what is above 1
+  below-one : (r s : ℕ) → 1 ≤ s → Best limit N D (pair r s) → r ≤ s
+  below-one r s p b = go (decLe r s)
+    where
+      go : Dec (r ≤ s) → r ≤ s
+      go (yes h) = h
+      go (no n) =
+          let above : s + 1 ≤ r = omega arith in
+          let one-held : held limit (pair 1 1) ≡ true = held-is limit 1 1 (omega arith) ∙ lim .one in
+          let differ : pair 1 1 ≡ pair r s → ⊥ =
+          λ e. let i : 1 ≡ r = ap (λ (x : Pair). x .numerator) e in let j : 1 ≡ s = ap (λ (x : Pair). x .denominator) e in omega arith
+          in
+          let i : (s + 1) * D ≤ r * D = mul-le-mul-right D above in
+          let j : s * N ≤ s * D = mul-le-mul-left s l in
+          absurd (⊎-elim (λ h. omega (arith, i, j)) (λ h. omega (arith, i, j, h .0, h .1)) (b .better (pair 1 1) one-held differ))
+
+  from-zero-to-one : (x : Pair) → Best limit N D x → (1 ≤ x .denominator) × (x .numerator ≤ x .denominator)
+  from-zero-to-one x b = go (x .numerator) (x .denominator) b
+    where
+      go : (r s : ℕ) → Best limit N D (pair r s) → (1 ≤ s) × (r ≤ s)
+      go r zero c = absurd (finite r c)
+      go r (suc s) c = let p : 1 ≤ suc s = omega arith in (p, below-one r (suc s) p c)
+
+-- ---- the word of a ratio
+
+-- a word with no stop has no bit above the width
+not-above : (f : Format) (w : ℕ) → wordStop f w ≡ 0 → isAbove (widthOf f) w ≡ false
+not-above f w c = go (isAbove (widthOf f) w) refl
+  where
+    go : (t : Bool) → isAbove (widthOf f) w ≡ t → isAbove (widthOf f) w ≡ false
+    go false h = h
+    go true h = absurd (omega (arith, stop-above f w h))
+
+known-format : known format ≡ true
+unfolding known
+known-format = refl
+
+abbrev pub parts : ℕ → ℕ → Parts
+parts N D = record { negative = false; numerator = N; denominator = D }
+
+abbrev pub exact : ℕ → ℕ → Number
+exact N D = record { value = Fraction (parts N D); approximate = false }
+
+module _ (N D : ℕ) (pos : 1 ≤ D) where
+  not-over : isOverZero (Fraction (parts N D)) ≡ false
+  unfolding isOverZero
+  not-over = ne-eqb D 0 (λ e. omega arith)
+
+  ratio-written : done (ratioWord N D) ≡ writeNumber format (exact N D)
+  unfolding ratioWord
+  ratio-written = write-done format _ known-format not-over
+
+  -- demand 3
+  pub ratio-best : BestFor format N D (ratioWord N D)
+  unfolding ratioWord BestWord rounded wordFor
+  ratio-best =
+      word-rounded format known-format false (parts N D) _ refl
+      (round-best (holds format) (format-limit format known-format) N D pos) _ refl _ refl .1
+
+  best-word : BestRatio N D (Word (ratioWord N D))
+  unfolding BestRatio
+  best-word = ratio-best
+
+  -- what `slash::write` answers
+  module _ (f : Format) (fe : f ≡ format) (a : Answer)
+      (w : (outcome a ≡ writeNumber f (exact N D))
+      × WhenDone (outcome a) (λ v. BestWord f (Fraction (parts N D)) v)) where
+    answer : outcome a ≡ done (ratioWord N D)
+    answer = w .0 ∙ ap (λ (g : Format). writeNumber g (exact N D)) fe ∙ sym ratio-written
+
+    pub rounded-done : (v : ℕ) → a ≡ Answer.Done v → (Word v ≡ Word (ratioWord N D)) × BestRatio N D (Word v)
+    unfolding BestRatio
+    rounded-done v e =
+        let same : v ≡ ratioWord N D = done-inj (sym (ap outcome e) ∙ answer) in
+        (ap Word same, subst (λ (u : ℕ). BestFor format N D u) (sym same) ratio-best)
+
+    pub rounded-stop : (s : Stop) → a ≡ Answer.Stopped s → ⊥
+    rounded-stop s e =
+        let t : stop (s .number) (s .place) ≡ done (ratioWord N D) = sym (ap outcome e) ∙ answer in
+        let z : _≡_ {A = ℕ} 0 1 = cc in
+        omega arith
+
+  readable : Readable (ratioWord N D)
+  readable =
+      let w : CanonicalWord format (ratioWord N D) = written-canonical format _ (ratioWord N D) (sym ratio-written) in
+      w .read ∙ ap done (sym (read-says format known-format _ _ (w .read) .number))
+
+  -- so its 8 hexadecimal digits are all of it
+  pub ratio-word-width : ratioWord N D < 2 ^ 32
+  unfolding isAbove widthOf
+  ratio-word-width =
+      let says = read-says format known-format _ _ readable in
+      leb-false _ _ (not-above format (ratioWord N D) (says .clear))
+
+  pub ratio-shown : N ≤ D → Shown (ratioWord N D)
+  unfolding fractionOf BestFor
+  ratio-shown l =
+      let x : Pair = fractionOf (ratioWord N D) in
+      let b : Best (holds format) N D x = ratio-best in
+      let p = from-zero-to-one (holds format) (format-limit format known-format) N D pos l x b in
+      let h : holds format (x .numerator) (x .denominator) ≡ true = sym (held-is (holds format) (x .numerator) (x .denominator) (p .0)) ∙ b .isHeld in
+      let s = fixed-holds format (x .numerator) (x .denominator) refl h .1 in
+      record { readable = readable; some = p .0; proper = p .1; small = omega arith }
+
+-- ---- a breath
+
+or-false : (s t : Bool) → (s || t) ≡ false → (s ≡ false) × (t ≡ false)
+or-false true t e = let z : _≡_ {A = ℕ} 0 1 = cc in absurd (omega arith)
+or-false false t e = (refl, e)
+
+module _ (b : Breath) where
+  pub void-is : (eqb (b .whole) 0 || ltb (b .whole) (b .inspiration)) ≡ isVoid b
+  unfolding isVoid
+  void-is = refl
+
+  -- a breath that isn't void
+  pub good-breath : isVoid b ≡ false → (1 ≤ b .whole) × (b .inspiration ≤ b .whole)
+  good-breath h =
+      let w = or-false (eqb (b .whole) 0) (ltb (b .whole) (b .inspiration)) (void-is ∙ h) in
+      let n : b .whole ≡ 0 → ⊥ = eqb-false _ _ (w .0) in
+      (omega arith, ltb-false _ _ (w .1))
+
+  pub breath-void : isVoid b ≡ true → (Void ≡ breathRatio b) × BestRatio (b .inspiration) (b .whole) Void
+  unfolding breathRatio BestRatio
+  breath-void h = (rw h refl, tt)
+
+  pub breath-word : isVoid b ≡ false → (r : Ratio)
+      → (r ≡ Word (ratioWord (b .inspiration) (b .whole))) × BestRatio (b .inspiration) (b .whole) r
+      → (r ≡ breathRatio b) × BestRatio (b .inspiration) (b .whole) r
+  unfolding breathRatio
+  breath-word h r w = (w .0 ∙ rw h refl, w .1)
+
+  pub breath-shown : ShownRatio (breathRatio b)
+  breath-shown = go (isVoid b) refl
+    where
+      go : (t : Bool) → isVoid b ≡ t → ShownRatio (breathRatio b)
+      go true h = subst ShownRatio (breath-void h .0) tt
+      go false h =
+          let g = good-breath h in
+          subst ShownRatio (breath-word h _ (refl, best-word _ _ (g .0)) .0) (ratio-shown (b .inspiration) (b .whole) (g .0) (g .1))
+
+-- ---- a night
+
+module _ (s : Sums) where
+  pub night-void : s .whole ≡ 0 → (Void ≡ nightRatio s) × BestRatio (s .inspiration) (s .whole) Void
+  unfolding nightRatio noneLeft BestRatio
+  night-void h = (rw (eq-eqb _ _ h) refl, tt)
+
+  pub night-word : (s .whole ≡ 0 → ⊥) → (r : Ratio)
+      → (r ≡ Word (ratioWord (s .inspiration) (s .whole))) × BestRatio (s .inspiration) (s .whole) r
+      → (r ≡ nightRatio s) × BestRatio (s .inspiration) (s .whole) r
+  unfolding nightRatio noneLeft
+  night-word h r w = (w .0 ∙ rw (ne-eqb _ _ h) refl, w .1)
+
+  pub night-shown : Proper s → ShownRatio (nightRatio s)
+  night-shown p = go (ℕ-discrete (s .whole) 0)
+    where
+      go : Dec (s .whole ≡ 0) → ShownRatio (nightRatio s)
+      go (yes h) = subst ShownRatio (night-void h .0) tt
+      go (no h) =
+          let pos : 1 ≤ s .whole = omega arith in
+          subst ShownRatio (night-word h _ (refl, best-word _ _ pos) .0) (ratio-shown (s .inspiration) (s .whole) pos p)
+
+  pub sum-void : (b : Breath) → isVoid b ≡ true → s ≡ withBreath s b
+  unfolding withBreath
+  sum-void b h = rw h refl
+
+  pub sum-good : (b : Breath) → isVoid b ≡ false
+      → record { inspiration = s .inspiration + b .inspiration; whole = s .whole + b .whole } ≡ withBreath s b
+  unfolding withBreath
+  sum-good b h = rw h refl
+
+and-true : (t : Bool) → (t && true) ≡ t
+and-true true = refl
+and-true false = refl
+
+and-false : (t : Bool) → (t && false) ≡ false
+and-false true = refl
+and-false false = refl
+
+-- the sums with a breath more
+module _ (s : Sums) (b : Breath) where
+  pub sum-bounds : withBreath s b .whole ≤ s .whole + b .whole
+  sum-bounds = go (isVoid b) refl
+    where
+      go : (t : Bool) → isVoid b ≡ t → withBreath s b .whole ≤ s .whole + b .whole
+      go true h = omega (arith, ap (λ (x : Sums). x .whole) (sum-void s b h))
+      go false h = omega (arith, ap (λ (x : Sums). x .whole) (sum-good s b h))
+
+  pub sum-proper : Proper s → Proper (withBreath s b)
+  sum-proper p = go (isVoid b) refl
+    where
+      go : (t : Bool) → isVoid b ≡ t → withBreath s b .inspiration ≤ withBreath s b .whole
+      go true h = subst Proper (sum-void s b h) p
+      go false h =
+          let g = good-breath b h in
+          omega (arith, p, g .1, ap (λ (x : Sums). x .whole) (sum-good s b h), ap (λ (x : Sums). x .inspiration) (sum-good s b h))
+
+  -- none is left just where none was left before and this breath is void
+  pub none-left : noneLeft (withBreath s b) ≡ (noneLeft s && isVoid b)
+  unfolding noneLeft
+  none-left = go (isVoid b) refl
+    where
+      go : (t : Bool) → isVoid b ≡ t → eqb (withBreath s b .whole) 0 ≡ (eqb (s .whole) 0 && isVoid b)
+      go true h = rw (h, sym (sum-void s b h)) (sym (and-true (eqb (s .whole) 0)))
+      go false h =
+          let g = good-breath b h in
+          let n : withBreath s b .whole ≡ 0 → ⊥ = λ e. omega (arith, g .0, ap (λ (x : Sums). x .whole) (sum-good s b h)) in
+          ne-eqb _ _ n ∙ rw h (sym (and-false (eqb (s .whole) 0)))

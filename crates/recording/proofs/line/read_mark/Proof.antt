@@ -1,0 +1,29 @@
+-- `recording::line::read_mark` meets its contract. Assumes nothing.
+use Rattle.recording.proofs.LineLaws.{mark-empty, mark-leading, mark-digits}
+use native.Mathlib.Omega.{arith}
+use mathlib.Core.Logic.{⊎-elim, inl, inr}
+use mathlib.Core.Path.{_∙_}
+use borrow.Author.Needs.{needs}
+use Rattle.recording.proofs.line.read_mark.Statement.{statement}
+use Rattle.recording.proofs.line.read_mark.Tie as tie
+
+returns : tie.Need-returns
+returns c = mark-empty _ (c .if1 .taken)
+
+shared-slice-read-if2 : tie.Need-shared-slice-read-if2
+shared-slice-read-if2 c = omega arith
+
+returns-2 : tie.Need-returns-2
+returns-2 c = mark-leading _ (c .before .if2 .taken) (c .if3 .taken)
+
+read-digits-requires : tie.Need-read-digits-requires
+read-digits-requires c κs = search needs
+
+returns-3 : tie.Need-returns-3
+returns-3 c =
+    c .read-digits .ensures
+    ∙ mark-digits _ (omega arith) (⊎-elim (λ w. inr (w .1 .left)) (λ w. inl (w .left)) (c .before .if2 .came))
+
+pub read-mark-spec : {M : Type 1} → statement M
+read-mark-spec =
+    tie.close (tie.spec returns shared-slice-read-if2 returns-2 read-digits-requires returns-3)

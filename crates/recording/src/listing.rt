@@ -1,0 +1,93 @@
+// The listing of a night's recording.
+ghost use mathlib.Core.Path.{_≡_};
+ghost use mathlib.Core.List.{_++_};
+ghost use Prim.Native.Nat.{_≤_};
+ghost use lib.ListN.{length, drop};
+ghost use Rattle.recording.specs.Listing.{breathLine, allLine, refusedLine, listingOf};
+ghost use Rattle.recording.specs.Stores.{Room, Stored, Proper};
+use crate::breath::Breath;
+use crate::breath::Sums;
+use crate::columns::put_columns;
+use crate::line::Line;
+use crate::line::read_line;
+use crate::stop;
+use crate::text::put_byte;
+use crate::text::put_decimal;
+use crate::text::put_text;
+
+// The most lines of a recording.
+const MOST_LINES: u64 = 65536;
+
+fn put_breath(out: &mut [u8], at: usize, number: u64, b: Breath) -> usize
+    requires { ⌜ Room (now out) at (breathLine number b) ⌝ }
+    ensures { λ r. ⌜ Stored (now (out .entry)) at (breathLine number b) (now (out .exit)) r ⌝ }
+{
+    let a = put_decimal(out, at, number);
+    let c = put_byte(out, a, b'\t');
+    let d = put_columns(out, c, b.ratio());
+    put_byte(out, d, b'\n')
+}
+
+fn put_all(out: &mut [u8], at: usize, s: Sums) -> usize
+    requires { ⌜ Proper s × Room (now out) at (allLine s) ⌝ }
+    ensures { λ r. ⌜ Stored (now (out .entry)) at (allLine s) (now (out .exit)) r ⌝ }
+{
+    let a = put_text(out, at, b"all\t");
+    let c = put_columns(out, a, s.ratio());
+    put_byte(out, c, b'\n')
+}
+
+fn put_refused(out: &mut [u8], at: usize, stop: u64, line: u64) -> usize
+    requires { ⌜ Room (now out) at (refusedLine stop line) ⌝ }
+    ensures { λ r. ⌜ Stored (now (out .entry)) at (refusedLine stop line) (now (out .exit)) r ⌝ }
+{
+    let a = put_text(out, at, b"refused\t");
+    let b = put_decimal(out, a, stop);
+    let c = put_byte(out, b, b'\t');
+    let d = put_decimal(out, c, line);
+    put_byte(out, d, b'\n')
+}
+
+// Lists the lines of a recording that has one.
+fn put_lines(bytes: &[u8], out: &mut [u8]) -> usize
+    requires { ⌜ 2162719 ≤ length (now out) ⌝ }
+    ensures { λ r. ⌜ Stored (now (out .entry)) 0 (listingOf (now (bytes .entry))) (now (out .exit)) r ⌝ }
+{
+    if bytes.len() == 0 {
+        return put_refused(out, 0, stop::EMPTY, 1);
+    }
+    let mut at = 0;
+    let mut from = 0;
+    let mut number = 1;
+    let mut sums = Sums {
+        inspiration: 0,
+        whole: 0,
+    };
+    while from < bytes.len() {
+        if MOST_LINES < number {
+            return put_refused(out, at, stop::LINES, number);
+        }
+        match read_line(&bytes[from..]) {
+            Line::Refused(stop) => {
+                return put_refused(out, at, stop, number);
+            }
+            Line::Read(entry) => {
+                let b = entry.breath;
+                at = put_breath(out, at, number, b);
+                sums = sums.with(b);
+                from += entry.used;
+                number += 1;
+            }
+        }
+    }
+    put_all(out, at, sums)
+}
+
+// Stores the listing of a recording at the start of the lent array, which holds the longest, and
+// answers its length.
+pub fn list(recording: &[u8], listing: &mut [u8; 2162719]) -> usize
+    ensures counted { λ r. ⌜ r ≡ length (listingOf (now (recording .entry))) ⌝ }
+    ensures stored { λ _. ⌜ now (listing .exit) ≡ listingOf (now (recording .entry)) ++ drop (length (listingOf (now (recording .entry)))) (now (listing .entry)) ⌝ }
+{
+    put_lines(recording, listing)
+}
