@@ -9,7 +9,7 @@ use lib.Seq.{drop-length, drop-drop}
 use Rattle.recording.specs.Text.{tab, lineFeed, decimal}
 use Rattle.recording.specs.Breaths.{breathRatio, noSums, withBreath, nightRatio}
 use Rattle.recording.specs.Columns.{columns}
-use Rattle.recording.specs.Listing.{breathLine, allLine, refusedLine, listingFrom, listingOf}
+use Rattle.recording.specs.Listing.{breathLine, allLine, refusedLine, listingFrom, listingOf, atStart}
 use Rattle.recording.specs.Stores.{put, Room, Stored, Proper}
 use Rattle.recording.specs.Lines.{readLine}
 use Rattle.recording.specs.declared.breath.Breath.{Breath}
@@ -264,9 +264,9 @@ module _ {bs o o′ : List ℕ} {at from n : ℕ} {s : Sums} (i : Listing bs o o
 -- ---- from the start of an array that is long enough
 
 pub listed : (bs o o′ : List ℕ) (k : ℕ) → length (listingOf bs) ≤ length o → Stored o 0 (listingOf bs) o′ k
-    → (k ≡ length (listingOf bs)) × (o′ ≡ listingOf bs ++ drop (length (listingOf bs)) o)
+    → (k ≡ length (listingOf bs)) × (o′ ≡ atStart (listingOf bs) o)
 listed bs o o′ k h r = (omega (arith, r .next), r .bytes ∙ put-front o (listingOf bs) h)
 
 -- for a caller that goes on with the listing's bytes alone: they are within the array
-pub listing-within : (bs o o′ : List ℕ) (k : ℕ) → k ≡ length (listingOf bs) → o′ ≡ listingOf bs ++ drop (length (listingOf bs)) o → k ≤ length o′
+pub listing-within : (bs o o′ : List ℕ) (k : ℕ) → k ≡ length (listingOf bs) → o′ ≡ atStart (listingOf bs) o → k ≤ length o′
 listing-within bs o o′ k e f = omega (arith, ap length f, length-append (listingOf bs) (drop (length (listingOf bs)) o))

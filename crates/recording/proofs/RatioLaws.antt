@@ -13,7 +13,7 @@ use Rattle.convergents.specs.Rounding.{Limit, held}
 use Rattle.convergents.specs.Best.{Best}
 use Rattle.convergents.proofs.Optimal.{held-is}
 use Rattle.convergents.proofs.Theorem.{round-best}
-use Rattle.slash.specs.Answers.{stop, done, outcome, WhenDone}
+use Rattle.slash.specs.Answers.{Outcome, stop, done, outcome, WhenDone}
 use Rattle.slash.specs.Formats.{known, widthOf, holds}
 use Rattle.slash.specs.Rounding.{rounded}
 use Rattle.slash.specs.Words.{wordFor, isOverZero, isAbove, wordStop, writeNumber, BestFor, BestWord}
@@ -131,10 +131,10 @@ module _ (N D : ℕ) (pos : 1 ≤ D) where
     answer = w .0 ∙ ap (λ (g : Format). writeNumber g (exact N D)) fe ∙ sym ratio-written
 
     pub rounded-done : (v : ℕ) → a ≡ Answer.Done v → (Word v ≡ Word (ratioWord N D)) × BestRatio N D (Word v)
-    unfolding BestRatio
+    unfolding BestRatio BestWord
     rounded-done v e =
-        let same : v ≡ ratioWord N D = done-inj (sym (ap outcome e) ∙ answer) in
-        (ap Word same, subst (λ (u : ℕ). BestFor format N D u) (sym same) ratio-best)
+        let best : BestFor f N D v = subst (λ (o : Outcome ℕ). WhenDone o (λ u. BestWord f (Fraction (parts N D)) u)) (ap outcome e) (w .1) in
+        (ap Word (done-inj (sym (ap outcome e) ∙ answer)), subst (λ (g : Format). BestFor g N D v) fe best)
 
     pub rounded-stop : (s : Stop) → a ≡ Answer.Stopped s → ⊥
     rounded-stop s e =
@@ -192,6 +192,16 @@ module _ (b : Breath) where
   unfolding breathRatio
   breath-word h r w = (w .0 ∙ rw h refl, w .1)
 
+  -- Demand 3, of every breath.
+  pub breath-best : BestRatio (b .inspiration) (b .whole) (breathRatio b)
+  breath-best = go (isVoid b) refl
+    where
+      go : (t : Bool) → isVoid b ≡ t → BestRatio (b .inspiration) (b .whole) (breathRatio b)
+      go true h = let w = breath-void h in subst (BestRatio (b .inspiration) (b .whole)) (w .0) (w .1)
+      go false h =
+          let best = best-word (b .inspiration) (b .whole) (good-breath h .0) in
+          subst (BestRatio (b .inspiration) (b .whole)) (breath-word h _ (refl, best) .0) best
+
   pub breath-shown : ShownRatio (breathRatio b)
   breath-shown = go (isVoid b) refl
     where
@@ -213,6 +223,16 @@ module _ (s : Sums) where
       → (r ≡ nightRatio s) × BestRatio (s .inspiration) (s .whole) r
   unfolding nightRatio noneLeft
   night-word h r w = (w .0 ∙ rw (ne-eqb _ _ h) refl, w .1)
+
+  -- Demand 3, of every night.
+  pub night-best : BestRatio (s .inspiration) (s .whole) (nightRatio s)
+  night-best = go (ℕ-discrete (s .whole) 0)
+    where
+      go : Dec (s .whole ≡ 0) → BestRatio (s .inspiration) (s .whole) (nightRatio s)
+      go (yes h) = let w = night-void h in subst (BestRatio (s .inspiration) (s .whole)) (w .0) (w .1)
+      go (no h) =
+          let best = best-word (s .inspiration) (s .whole) (omega arith) in
+          subst (BestRatio (s .inspiration) (s .whole)) (night-word h _ (refl, best) .0) best
 
   pub night-shown : Proper s → ShownRatio (nightRatio s)
   night-shown p = go (ℕ-discrete (s .whole) 0)

@@ -1,7 +1,7 @@
 -- A night's listing, from the bytes of its recording.
 use Prim.Native.Nat.{ℕ, zero, suc}
 use mathlib.Core.List.{List, [], _∷_, _++_}
-use lib.ListN.{drop}
+use lib.ListN.{length, drop}
 use Rattle.recording.specs.Text.{tab, lineFeed, decimal}
 use Rattle.recording.specs.Breaths.{breathRatio, noSums, withBreath, nightRatio}
 use Rattle.recording.specs.Lines.{readLine}
@@ -38,3 +38,7 @@ listingFrom (suc left) n s (b ∷ bs) =
 unfoldable pub listingOf : List ℕ → List ℕ
 listingOf [] = refusedLine 12 1
 listingOf (b ∷ bs) = listingFrom 65536 1 noSums (b ∷ bs)
+
+-- A lent list with new bytes stored at its start, and its rest as it was.
+abbrev pub atStart : (new old : List ℕ) → List ℕ
+atStart new old = new ++ drop (length new) old

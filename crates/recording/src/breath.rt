@@ -5,13 +5,13 @@ ghost use Rattle.recording.specs.Breaths.{breathOf, isVoid, breathRatio,
 use crate::ratio::Ratio;
 use crate::ratio::rounded;
 
-// In ticks of a clock that is 32 bits wide.
+// Breathing in, and the whole breath, in ticks of a clock that is 32 bits wide.
 pub struct Breath {
     pub inspiration: u32,
     pub whole: u32,
 }
 
-// Those of the breaths that aren't void.
+// The same summed over the breaths of a night that aren't void.
 pub struct Sums {
     pub inspiration: u64,
     pub whole: u64,

@@ -1,9 +1,8 @@
 // The listing of a night's recording.
 ghost use mathlib.Core.Path.{_≡_};
-ghost use mathlib.Core.List.{_++_};
 ghost use Prim.Native.Nat.{_≤_};
-ghost use lib.ListN.{length, drop};
-ghost use Rattle.recording.specs.Listing.{breathLine, allLine, refusedLine, listingOf};
+ghost use lib.ListN.{length};
+ghost use Rattle.recording.specs.Listing.{breathLine, allLine, refusedLine, listingOf, atStart};
 ghost use Rattle.recording.specs.Stores.{Room, Stored, Proper};
 use crate::breath::Breath;
 use crate::breath::Sums;
@@ -22,33 +21,34 @@ fn put_breath(out: &mut [u8], at: usize, number: u64, b: Breath) -> usize
     requires { ⌜ Room (now out) at (breathLine number b) ⌝ }
     ensures { λ r. ⌜ Stored (now (out .entry)) at (breathLine number b) (now (out .exit)) r ⌝ }
 {
-    let a = put_decimal(out, at, number);
-    let c = put_byte(out, a, b'\t');
-    let d = put_columns(out, c, b.ratio());
-    put_byte(out, d, b'\n')
+    let tab = put_decimal(out, at, number);
+    let columns = put_byte(out, tab, b'\t');
+    let end = put_columns(out, columns, b.ratio());
+    put_byte(out, end, b'\n')
 }
 
 fn put_all(out: &mut [u8], at: usize, s: Sums) -> usize
     requires { ⌜ Proper s × Room (now out) at (allLine s) ⌝ }
     ensures { λ r. ⌜ Stored (now (out .entry)) at (allLine s) (now (out .exit)) r ⌝ }
 {
-    let a = put_text(out, at, b"all\t");
-    let c = put_columns(out, a, s.ratio());
-    put_byte(out, c, b'\n')
+    let columns = put_text(out, at, b"all\t");
+    let end = put_columns(out, columns, s.ratio());
+    put_byte(out, end, b'\n')
 }
 
 fn put_refused(out: &mut [u8], at: usize, stop: u64, line: u64) -> usize
     requires { ⌜ Room (now out) at (refusedLine stop line) ⌝ }
     ensures { λ r. ⌜ Stored (now (out .entry)) at (refusedLine stop line) (now (out .exit)) r ⌝ }
 {
-    let a = put_text(out, at, b"refused\t");
-    let b = put_decimal(out, a, stop);
-    let c = put_byte(out, b, b'\t');
-    let d = put_decimal(out, c, line);
-    put_byte(out, d, b'\n')
+    let number = put_text(out, at, b"refused\t");
+    let tab = put_decimal(out, number, stop);
+    let place = put_byte(out, tab, b'\t');
+    let end = put_decimal(out, place, line);
+    put_byte(out, end, b'\n')
 }
 
-// Lists the lines of a recording that has one.
+// Stores the listing of a recording at the start of a list that has room for the longest: line by
+// line, each breath as it is read.
 fn put_lines(bytes: &[u8], out: &mut [u8]) -> usize
     requires { ⌜ 2162719 ≤ length (now out) ⌝ }
     ensures { λ r. ⌜ Stored (now (out .entry)) 0 (listingOf (now (bytes .entry))) (now (out .exit)) r ⌝ }
@@ -87,7 +87,7 @@ fn put_lines(bytes: &[u8], out: &mut [u8]) -> usize
 // answers its length.
 pub fn list(recording: &[u8], listing: &mut [u8; 2162719]) -> usize
     ensures counted { λ r. ⌜ r ≡ length (listingOf (now (recording .entry))) ⌝ }
-    ensures stored { λ _. ⌜ now (listing .exit) ≡ listingOf (now (recording .entry)) ++ drop (length (listingOf (now (recording .entry)))) (now (listing .entry)) ⌝ }
+    ensures stored { λ _. ⌜ now (listing .exit) ≡ atStart (listingOf (now (recording .entry))) (now (listing .entry)) ⌝ }
 {
     put_lines(recording, listing)
 }

@@ -1,0 +1,503 @@
+//! Slash arithmetic written by hand for speed: 64-bit numbers, Euclid's loop with convergents.
+//!
+//! A refused call returns `Err` of its place times 256 plus the stop's number.
+
+pub mod night;
+
+pub type Answer = Result<u64, u64>;
+
+const UNKNOWN_FORMAT: u64 = 1;
+const UNKNOWN_CODE: u64 = 2;
+const UNEQUAL_LENGTHS: u64 = 3;
+const BITS_ABOVE_WIDTH: u64 = 4;
+const UNDEFINED_SLASH_POSITION: u64 = 5;
+const DENOMINATOR_ZERO: u64 = 6;
+const LIST_TOO_SHORT: u64 = 7;
+
+// Formats.
+
+#[derive(Clone, Copy)]
+struct Form {
+    fixed: bool,
+    k: u32,
+    /// The bits of a floating word's slash position.
+    slash_bits: u32,
+    /// The place of the sign.
+    sign_at: u32,
+    /// The place of the mark.
+    mark_at: u32,
+}
+
+#[inline]
+fn form(kind: u64, k: u64) -> Result<Form, u64> {
+    match kind {
+        1 if (2..=31).contains(&k) => {
+            let k = k as u32;
+            Ok(Form {
+                fixed: true,
+                k,
+                slash_bits: 0,
+                sign_at: 2 * k + 1,
+                mark_at: k,
+            })
+        }
+        2 if (2..=32).contains(&k) => {
+            let k = k as u32;
+            let slash_bits = 32 - (k - 1).leading_zeros();
+            let sign_at = k + slash_bits;
+            Ok(Form {
+                fixed: false,
+                k,
+                slash_bits,
+                sign_at,
+                mark_at: sign_at - 1,
+            })
+        }
+        _ => Err(UNKNOWN_FORMAT),
+    }
+}
+
+impl Form {
+    #[inline]
+    fn holds(self, n: u64, d: u64) -> bool {
+        if self.fixed {
+            (n | d) >> self.k == 0
+        } else {
+            (64 - (n | 1).leading_zeros()) + (64 - d.leading_zeros()) <= self.k
+        }
+    }
+
+    /// The slash position of infinities and not-a-numbers.
+    #[inline]
+    fn last_position(self) -> u64 {
+        (1 << self.slash_bits) - 1
+    }
+}
+
+// Words.
+
+#[derive(Clone, Copy, PartialEq)]
+enum Class {
+    Finite,
+    Infinite,
+    NotANumber,
+}
+
+/// What a word stands for; n/d is its size where it is finite.
+#[derive(Clone, Copy)]
+struct Number {
+    class: Class,
+    negative: bool,
+    marked: bool,
+    n: u64,
+    d: u64,
+}
+
+const NOT_A_NUMBER: Number = Number {
+    class: Class::NotANumber,
+    negative: false,
+    marked: false,
+    n: 0,
+    d: 0,
+};
+
+#[inline]
+fn infinite(negative: bool, marked: bool) -> Number {
+    Number {
+        class: Class::Infinite,
+        negative,
+        marked,
+        n: 1,
+        d: 0,
+    }
+}
+
+#[inline]
+fn finite(negative: bool, marked: bool, n: u64, d: u64) -> Number {
+    Number {
+        class: Class::Finite,
+        negative,
+        marked,
+        n,
+        d,
+    }
+}
+
+#[inline]
+fn read(form: Form, word: u64) -> Result<Number, u64> {
+    if form.sign_at < 63 && word >> (form.sign_at + 1) != 0 {
+        return Err(BITS_ABOVE_WIDTH);
+    }
+    let negative = word >> form.sign_at & 1 == 1;
+    let marked = word >> form.mark_at & 1 == 1;
+    if form.fixed {
+        let low = (1 << form.k) - 1;
+        let (n, d) = (word >> (form.k + 1) & low, word & low);
+        if n != 0 && d != 0 {
+            Ok(finite(negative, marked, n, d))
+        } else if d & 1 == 1 {
+            Ok(finite(negative, marked, 0, 1))
+        } else if n & 1 == 1 {
+            Ok(infinite(negative, marked))
+        } else {
+            Ok(NOT_A_NUMBER)
+        }
+    } else {
+        let e = word >> (form.k - 1) & form.last_position();
+        let f = word & ((1 << (form.k - 1)) - 1);
+        if e <= u64::from(form.k) - 2 {
+            let n = f >> e;
+            if n == 0 {
+                Ok(finite(negative, marked, 0, 1))
+            } else {
+                Ok(finite(negative, marked, n, f & ((1 << e) - 1) | 1 << e))
+            }
+        } else if e != form.last_position() {
+            Err(UNDEFINED_SLASH_POSITION)
+        } else if f & 1 == 0 {
+            Ok(infinite(negative, marked))
+        } else {
+            Ok(NOT_A_NUMBER)
+        }
+    }
+}
+
+#[inline]
+fn write(form: Form, number: Number) -> u64 {
+    let Number {
+        class,
+        negative,
+        marked,
+        n,
+        d,
+    } = number;
+    match class {
+        Class::NotANumber if form.fixed => 0,
+        Class::NotANumber => form.last_position() << (form.k - 1) | 1,
+        Class::Infinite => put(form, negative, marked, 1, 0),
+        Class::Finite => {
+            let (r, s, changed) = cut(form, n, d);
+            put(form, negative, marked | changed, r, s)
+        }
+    }
+}
+
+/// The word of a held pair in lowest terms.
+#[inline]
+fn put(form: Form, negative: bool, marked: bool, r: u64, s: u64) -> u64 {
+    let top = u64::from(negative) << form.sign_at | u64::from(marked) << form.mark_at;
+    if form.fixed {
+        top | r << (form.k + 1) | s
+    } else if s == 0 {
+        top | form.last_position() << (form.k - 1)
+    } else {
+        let e = 63 - s.leading_zeros();
+        top | u64::from(e) << (form.k - 1) | r << e | s ^ 1 << e
+    }
+}
+
+/// The last convergent of n/d, d at least 1, that the format holds, and whether it isn't n/d.
+#[inline]
+fn cut(form: Form, mut n: u64, mut d: u64) -> (u64, u64, bool) {
+    let (mut r0, mut s0, mut r1, mut s1) = (0u64, 1u64, 1u64, 0u64);
+    while d != 0 {
+        let quotient = n / d;
+        let (Some(r), Some(s)) = (quotient.checked_mul(r1), quotient.checked_mul(s1)) else {
+            return (r1, s1, true);
+        };
+        let (Some(r), Some(s)) = (r.checked_add(r0), s.checked_add(s0)) else {
+            return (r1, s1, true);
+        };
+        if !form.holds(r, s) {
+            return (r1, s1, true);
+        }
+        (n, d) = (d, n - quotient * d);
+        (r0, s0, r1, s1) = (r1, s1, r, s);
+    }
+    (r1, s1, false)
+}
+
+// The functions on words.
+
+pub fn round(kind: u64, k: u64, n: u64, d: u64) -> Answer {
+    let form = form(kind, k)?;
+    if d == 0 {
+        return Err(DENOMINATOR_ZERO);
+    }
+    let (r, s, changed) = cut(form, n, d);
+    Ok(put(form, false, changed, r, s))
+}
+
+#[inline]
+fn sum(left: Number, right: Number) -> Number {
+    let marked = left.marked | right.marked;
+    match (left.class, right.class) {
+        (Class::Finite, Class::Finite) => {
+            let (ad, bc, bd) = (left.n * right.d, left.d * right.n, left.d * right.d);
+            if left.negative == right.negative {
+                finite(left.negative & (ad + bc != 0), marked, ad + bc, bd)
+            } else if ad > bc {
+                finite(left.negative, marked, ad - bc, bd)
+            } else {
+                finite(right.negative & (bc != ad), marked, bc - ad, bd)
+            }
+        }
+        (Class::Finite, _) => infinite(right.negative, marked),
+        (_, Class::Finite) => infinite(left.negative, marked),
+        _ if left.negative == right.negative => infinite(left.negative, marked),
+        _ => NOT_A_NUMBER,
+    }
+}
+
+#[inline]
+fn product(left: Number, right: Number) -> Number {
+    let (negative, marked) = (left.negative ^ right.negative, left.marked | right.marked);
+    match (left.class, right.class) {
+        (Class::Finite, Class::Finite) => {
+            finite(negative, marked, left.n * right.n, left.d * right.d)
+        }
+        _ if left.n == 0 || right.n == 0 => NOT_A_NUMBER,
+        _ => infinite(negative, marked),
+    }
+}
+
+#[inline]
+fn quotient(left: Number, right: Number) -> Number {
+    let (negative, marked) = (left.negative ^ right.negative, left.marked | right.marked);
+    match (left.class, right.class) {
+        (Class::Finite, Class::Finite) => match (left.n, right.n) {
+            (0, 0) => NOT_A_NUMBER,
+            (_, 0) => infinite(negative, marked),
+            _ => finite(negative, marked, left.n * right.d, left.d * right.n),
+        },
+        (Class::Infinite, Class::Infinite) => NOT_A_NUMBER,
+        (Class::Infinite, _) => infinite(negative, marked),
+        _ => finite(negative, marked, 0, 1),
+    }
+}
+
+#[inline]
+fn operate(form: Form, code: u64, left: Number, mut right: Number) -> u64 {
+    if left.class == Class::NotANumber || right.class == Class::NotANumber {
+        return write(form, NOT_A_NUMBER);
+    }
+    right.negative ^= code == 2;
+    let result = match code {
+        1 | 2 => sum(left, right),
+        3 => product(left, right),
+        _ => quotient(left, right),
+    };
+    write(form, result)
+}
+
+pub fn binary(kind: u64, k: u64, code: u64, left: u64, right: u64) -> Answer {
+    let form = form(kind, k)?;
+    if !(1..=4).contains(&code) {
+        return Err(UNKNOWN_CODE);
+    }
+    let (left, right) = (read(form, left)?, read(form, right)?);
+    Ok(operate(form, code, left, right))
+}
+
+/// 0 below, 1 equal, 2 above, 3 unordered.
+pub fn compare(kind: u64, k: u64, left: u64, right: u64) -> Answer {
+    let form = form(kind, k)?;
+    let (left, right) = (read(form, left)?, read(form, right)?);
+    if left.class == Class::NotANumber || right.class == Class::NotANumber {
+        return Ok(3);
+    }
+    // Infinities are 1/0, so that products across put them outside; of one kind they are equal.
+    let (ad, bc) = match (left.class, right.class) {
+        (Class::Infinite, Class::Infinite) => (1, 1),
+        (Class::Infinite, _) => (1, 0),
+        (_, Class::Infinite) => (0, 1),
+        _ => (left.n * right.d, right.n * left.d),
+    };
+    let signed = |negative: bool, size: u64| {
+        if negative {
+            -(size as i64)
+        } else {
+            size as i64
+        }
+    };
+    Ok(
+        match signed(left.negative, ad).cmp(&signed(right.negative, bc)) {
+            std::cmp::Ordering::Less => 0,
+            std::cmp::Ordering::Equal => 1,
+            std::cmp::Ordering::Greater => 2,
+        },
+    )
+}
+
+pub fn convert(kind: u64, k: u64, to_kind: u64, to_k: u64, operand: u64) -> Answer {
+    let (source, target) = (form(kind, k)?, form(to_kind, to_k)?);
+    Ok(write(target, read(source, operand)?))
+}
+
+#[inline]
+fn change(form: Form, code: u64, operand: u64, number: Number) -> u64 {
+    let Number {
+        class,
+        negative,
+        n,
+        d,
+        ..
+    } = number;
+    if class == Class::NotANumber {
+        return write(form, number);
+    }
+    let result = match code {
+        1 => return operand ^ 1 << form.sign_at,
+        2 => return operand & !(1 << form.sign_at),
+        3 if class == Class::Infinite => Number {
+            class: Class::Finite,
+            n: 0,
+            d: 1,
+            ..number
+        },
+        3 if n == 0 => infinite(negative, number.marked),
+        3 => Number {
+            n: d,
+            d: n,
+            ..number
+        },
+        6 if class == Class::Infinite => NOT_A_NUMBER,
+        7 => number,
+        _ if class == Class::Infinite => number,
+        6 if n % d == 0 => Number {
+            negative: false,
+            n: 0,
+            d: 1,
+            ..number
+        },
+        6 if negative => Number {
+            negative: false,
+            n: d - n % d,
+            ..number
+        },
+        6 => Number { n: n % d, ..number },
+        // Floor of a negative number and ceiling of another go away from zero.
+        _ => {
+            let away = negative == (code == 4) && n % d != 0;
+            let whole = n / d + u64::from(away);
+            Number {
+                negative: negative && whole != 0,
+                n: whole,
+                d: 1,
+                ..number
+            }
+        }
+    };
+    write(form, result)
+}
+
+pub fn unary(kind: u64, k: u64, code: u64, operand: u64) -> Answer {
+    let form = form(kind, k)?;
+    if !(1..=7).contains(&code) {
+        return Err(UNKNOWN_CODE);
+    }
+    let number = read(form, operand)?;
+    Ok(change(form, code, operand, number))
+}
+
+pub fn gcd(kind: u64, k: u64, operand: u64) -> Answer {
+    let form = form(kind, k)?;
+    let Number { class, n, d, .. } = read(form, operand)?;
+    if class != Class::Finite || n == 0 {
+        return Ok(0);
+    }
+    let (mut a, mut b) = (n, d);
+    while b != 0 {
+        (a, b) = (b, a % b);
+    }
+    Ok(a)
+}
+
+pub fn quotients(kind: u64, k: u64, operand: u64, list: &mut [u32]) -> Answer {
+    let form = form(kind, k)?;
+    let Number { class, n, d, .. } = read(form, operand)?;
+    if class != Class::Finite {
+        return Ok(0);
+    }
+    // 2k quotients at most, k at most 32.
+    let mut found = [0; 64];
+    let (mut n, mut d, mut count) = (n, d, 0);
+    while d != 0 {
+        found[count] = (n / d) as u32;
+        (n, d, count) = (d, n % d, count + 1);
+    }
+    let Some(place) = list.get_mut(..count) else {
+        return Err(LIST_TOO_SHORT);
+    };
+    place.copy_from_slice(&found[..count]);
+    Ok(count as u64)
+}
+
+// Vectors.
+
+fn at(place: usize) -> impl Fn(u64) -> u64 {
+    move |stop| place as u64 * 256 + stop
+}
+
+pub fn binary_each(
+    kind: u64,
+    k: u64,
+    code: u64,
+    left: &[u64],
+    right: &[u64],
+    out: &mut [u64],
+) -> Answer {
+    let form = form(kind, k)?;
+    if !(1..=4).contains(&code) {
+        return Err(UNKNOWN_CODE);
+    }
+    if left.len() != right.len() || left.len() != out.len() {
+        return Err(UNEQUAL_LENGTHS);
+    }
+    for (place, (&left, &right)) in left.iter().zip(right).enumerate() {
+        read(form, left).map_err(at(place))?;
+        read(form, right).map_err(at(place))?;
+    }
+    for ((&left, &right), out) in left.iter().zip(right).zip(out) {
+        *out = operate(form, code, read(form, left)?, read(form, right)?);
+    }
+    Ok(0)
+}
+
+pub fn unary_each(kind: u64, k: u64, code: u64, operand: &[u64], out: &mut [u64]) -> Answer {
+    let form = form(kind, k)?;
+    if !(1..=7).contains(&code) {
+        return Err(UNKNOWN_CODE);
+    }
+    check_one(form, operand, out)?;
+    for (&operand, out) in operand.iter().zip(out) {
+        *out = change(form, code, operand, read(form, operand)?);
+    }
+    Ok(0)
+}
+
+pub fn convert_each(
+    kind: u64,
+    k: u64,
+    to_kind: u64,
+    to_k: u64,
+    operand: &[u64],
+    out: &mut [u64],
+) -> Answer {
+    let (source, target) = (form(kind, k)?, form(to_kind, to_k)?);
+    check_one(source, operand, out)?;
+    for (&operand, out) in operand.iter().zip(out) {
+        *out = write(target, read(source, operand)?);
+    }
+    Ok(0)
+}
+
+fn check_one(form: Form, operand: &[u64], out: &[u64]) -> Answer {
+    if operand.len() != out.len() {
+        return Err(UNEQUAL_LENGTHS);
+    }
+    for (place, &word) in operand.iter().enumerate() {
+        read(form, word).map_err(at(place))?;
+    }
+    Ok(0)
+}

@@ -1,0 +1,202 @@
+//! Each contender runs a row's inputs and gives the checksum of its results.
+
+use slash::raw;
+use std::hint::black_box;
+
+/// What a row asks for; a vector's operations apply to all inputs by one call.
+#[derive(Clone, Copy, PartialEq)]
+pub enum Operation {
+    Round,
+    Binary(u64),
+    Compare,
+    Unary(u64),
+    Gcd,
+    Quotients,
+    Convert,
+    BinaryEach(u64),
+    UnaryEach(u64),
+    ConvertEach,
+}
+
+use Operation::*;
+
+/// A row of the table: an operation in a format, and its inputs.
+pub struct Row {
+    pub name: String,
+    pub operation: Operation,
+    pub form: (u64, u64),
+    pub target: (u64, u64),
+    pub inputs: Vec<(u64, u64)>,
+    pub left: Vec<u64>,
+    pub right: Vec<u64>,
+}
+
+/// The checksum of results: times 31 plus the next, modulo 2^64.
+pub fn folded(results: impl Iterator<Item = u64>) -> u64 {
+    results.fold(0, |h, result| h.wrapping_mul(31).wrapping_add(result))
+}
+
+fn each(inputs: &[(u64, u64)], mut call: impl FnMut(u64, u64) -> u64) -> u64 {
+    folded(inputs.iter().map(|&(a, b)| call(a, b)))
+}
+
+/// The checksum of the quotients at the start of a list, their count first.
+fn folded_list(list: &[u32], count: u64) -> u64 {
+    let quotients = list[..count as usize]
+        .iter()
+        .map(|&quotient| quotient.into());
+    folded(std::iter::once(count).chain(quotients))
+}
+
+/// The archive, by its C interface.
+pub fn archive(row: &Row, count: usize) -> u64 {
+    let ((kind, k), (to_kind, to_k)) = (black_box(row.form), black_box(row.target));
+    let (inputs, left, right) = (
+        &row.inputs[..count],
+        &row.left[..count],
+        &row.right[..count],
+    );
+    let mut word = 0;
+    let mut list = [0; 64];
+    let mut out = vec![0; count];
+    let (l, r, o) = (left.as_ptr(), right.as_ptr(), out.as_mut_ptr());
+    // SAFETY: the pointers are those of live numbers and vectors, with their lengths.
+    let status = unsafe {
+        match row.operation {
+            Round => {
+                return each(inputs, |n, d| {
+                    raw::slash_round(kind, k, n, d, &mut word);
+                    word
+                })
+            }
+            Binary(code) => {
+                return each(inputs, |a, b| {
+                    raw::slash_binary(kind, k, code, a, b, &mut word);
+                    word
+                })
+            }
+            Compare => {
+                return each(inputs, |a, b| {
+                    raw::slash_compare(kind, k, a, b, &mut word);
+                    word
+                })
+            }
+            Unary(code) => {
+                return each(inputs, |a, _| {
+                    raw::slash_unary(kind, k, code, a, &mut word);
+                    word
+                })
+            }
+            Gcd => {
+                return each(inputs, |a, _| {
+                    raw::slash_gcd(kind, k, a, &mut word);
+                    word
+                })
+            }
+            Quotients => {
+                return each(inputs, |a, _| {
+                    raw::slash_quotients(kind, k, a, list.as_mut_ptr(), list.len(), &mut word);
+                    folded_list(&list, word)
+                })
+            }
+            Convert => {
+                return each(inputs, |a, _| {
+                    raw::slash_convert(kind, k, to_kind, to_k, a, &mut word);
+                    word
+                })
+            }
+            BinaryEach(code) => raw::slash_binary_each(kind, k, code, l, count, r, count, o, count),
+            UnaryEach(code) => raw::slash_unary_each(kind, k, code, l, count, o, count),
+            ConvertEach => raw::slash_convert_each(kind, k, to_kind, to_k, l, count, o, count),
+        }
+    };
+    assert_eq!(status, 0);
+    folded(out.into_iter())
+}
+
+/// The hand-written Rust.
+pub fn hand(row: &Row, count: usize) -> u64 {
+    let ((kind, k), (to_kind, to_k)) = (black_box(row.form), black_box(row.target));
+    let (inputs, left, right) = (
+        &row.inputs[..count],
+        &row.left[..count],
+        &row.right[..count],
+    );
+    let mut list = [0; 64];
+    let mut out = vec![0; count];
+    let good = |answer: hand::Answer| answer.unwrap_or(u64::MAX);
+    match row.operation {
+        Round => return each(inputs, |n, d| good(hand::round(kind, k, n, d))),
+        Binary(code) => return each(inputs, |a, b| good(hand::binary(kind, k, code, a, b))),
+        Compare => return each(inputs, |a, b| good(hand::compare(kind, k, a, b))),
+        Unary(code) => return each(inputs, |a, _| good(hand::unary(kind, k, code, a))),
+        Gcd => return each(inputs, |a, _| good(hand::gcd(kind, k, a))),
+        Quotients => {
+            return each(inputs, |a, _| {
+                let count = good(hand::quotients(kind, k, a, &mut list));
+                folded_list(&list, count)
+            })
+        }
+        Convert => {
+            return each(inputs, |a, _| {
+                good(hand::convert(kind, k, to_kind, to_k, a))
+            })
+        }
+        BinaryEach(code) => good(hand::binary_each(kind, k, code, left, right, &mut out)),
+        UnaryEach(code) => good(hand::unary_each(kind, k, code, left, &mut out)),
+        ConvertEach => good(hand::convert_each(kind, k, to_kind, to_k, left, &mut out)),
+    };
+    folded(out.into_iter())
+}
+
+extern "C" {
+    fn gmp_start();
+    fn gmp_round(kind: u64, k: u64, n: u64, d: u64) -> u64;
+    fn gmp_binary(kind: u64, k: u64, code: u64, left: u64, right: u64) -> u64;
+    fn gmp_compare(kind: u64, k: u64, left: u64, right: u64) -> u64;
+    fn gmp_unary(kind: u64, k: u64, code: u64, operand: u64) -> u64;
+    fn gmp_common_divisor(kind: u64, k: u64, operand: u64) -> u64;
+    fn gmp_convert(kind: u64, k: u64, to_kind: u64, to_k: u64, operand: u64) -> u64;
+    fn gmp_quotients(kind: u64, k: u64, operand: u64, list: *mut u32) -> u64;
+}
+
+/// Makes GMP's numbers, once.
+pub fn start_gmp() {
+    // SAFETY: called once, from one thread.
+    unsafe { gmp_start() }
+}
+
+/// GMP's rationals, called from C; a vector is a loop over its places.
+pub fn gmp(row: &Row, count: usize) -> u64 {
+    let ((kind, k), (to_kind, to_k)) = (black_box(row.form), black_box(row.target));
+    let inputs = &row.inputs[..count];
+    let mut list = [0; 64];
+    // SAFETY: one thread, after start_gmp; the list is as long as the most quotients.
+    unsafe {
+        match row.operation {
+            Round => each(inputs, |n, d| gmp_round(kind, k, n, d)),
+            Binary(code) | BinaryEach(code) => each(inputs, |a, b| gmp_binary(kind, k, code, a, b)),
+            Compare => each(inputs, |a, b| gmp_compare(kind, k, a, b)),
+            Unary(code) | UnaryEach(code) => each(inputs, |a, _| gmp_unary(kind, k, code, a)),
+            Gcd => each(inputs, |a, _| gmp_common_divisor(kind, k, a)),
+            Quotients => each(inputs, |a, _| {
+                let count = gmp_quotients(kind, k, a, list.as_mut_ptr());
+                folded_list(&list, count)
+            }),
+            Convert | ConvertEach => each(inputs, |a, _| gmp_convert(kind, k, to_kind, to_k, a)),
+        }
+    }
+}
+
+/// The name and the code by which Python's contender knows an operation.
+pub fn python_name(operation: Operation) -> (&'static str, u64) {
+    match operation {
+        Round => ("round", 0),
+        Binary(code) | BinaryEach(code) => ("binary", code),
+        Compare => ("compare", 0),
+        Unary(code) | UnaryEach(code) => ("unary", code),
+        Gcd => ("gcd", 0),
+        Quotients => ("quotients", 0),
+        Convert | ConvertEach => ("convert", 0),
+    }
+}

@@ -1,0 +1,81 @@
+//! The inputs that every contender gets: random, and the same in each run.
+
+/// A source of random numbers (xorshift).
+pub struct Source(u64);
+
+impl Source {
+    pub fn new(seed: u64) -> Source {
+        Source(seed.wrapping_mul(0x9e37_79b9_7f4a_7c15) | 1)
+    }
+
+    fn bits(&mut self) -> u64 {
+        self.0 ^= self.0 << 13;
+        self.0 ^= self.0 >> 7;
+        self.0 ^= self.0 << 17;
+        self.0.wrapping_mul(0x2545_f491_4f6c_dd1d)
+    }
+
+    fn below(&mut self, end: u64) -> u64 {
+        ((self.bits() as u128 * end as u128) >> 64) as u64
+    }
+
+    /// A number from 1 to 2^count - 1.
+    fn part(&mut self, count: u64) -> u64 {
+        (self.bits() >> (64 - count)).max(1)
+    }
+
+    /// A ratio whose parts have this many bits at most, the denominator not 0.
+    pub fn ratio(&mut self, bits: u64) -> (u64, u64) {
+        (self.part(bits), self.part(bits))
+    }
+
+    /// A good word: a fraction, and one time in 16 a zero, an infinity or a not-a-number.
+    pub fn word(&mut self, (kind, k): (u64, u64)) -> u64 {
+        let special = self.below(16) == 0;
+        let which = self.below(3);
+        let (sign, mark) = (self.below(2), self.below(2));
+        if kind == 1 {
+            let (r, s) = match (special, which) {
+                (false, _) => (self.part(k), self.part(k)),
+                (true, 0) => (0, 1),
+                (true, 1) => (1, 0),
+                (true, _) => (0, 0),
+            };
+            return sign << (2 * k + 1) | r << (k + 1) | mark << k | s;
+        }
+        let slash_bits = 64 - u64::from((k - 1).leading_zeros());
+        let top = (sign * 2 + mark) << (k + slash_bits - 1);
+        if special {
+            let e = if which == 0 { 0 } else { (1 << slash_bits) - 1 };
+            return top | e << (k - 1) | which >> 1;
+        }
+        let r_bits = 1 + self.below(k - 1);
+        let (r, s) = (self.part(r_bits), self.part(k - r_bits));
+        let e = 63 - u64::from(s.leading_zeros());
+        top | e << (k - 1) | r << e | (s ^ 1 << e)
+    }
+
+    /// A recording like a sleeper's at a thousand ticks a second, whose clock starts again once.
+    pub fn recording(&mut self, breaths: usize) -> Vec<u8> {
+        let mut onset = u32::MAX - 100_000_000;
+        let (mut period, mut recording) = (4000, Vec::new());
+        for _ in 0..breaths {
+            period = (period + self.below(401)).clamp(2700, 6200) - 200;
+            let whole = period + self.below(300);
+            let inward = whole * (330 + self.below(170)) / 1000;
+            // Now and then the peak is missed, and the breath is void.
+            let inward = if self.below(500) == 0 {
+                whole + 7
+            } else {
+                inward
+            };
+            let (peak, next) = (
+                onset.wrapping_add(inward as u32),
+                onset.wrapping_add(whole as u32),
+            );
+            recording.extend_from_slice(format!("{onset}\t{peak}\t{next}\n").as_bytes());
+            onset = next;
+        }
+        recording
+    }
+}

@@ -1,0 +1,374 @@
+//! Times the archive beside other ways to the same results, and prints a table: bench FOLDER NIGHT.
+//!
+//! FOLDER has this project's bench/ and NIGHT is the program `night`, or `-` where there is none yet.
+//! The contenders take turns within each round. A time shown is the median over the rounds, and a ratio
+//! is the median of the rounds' ratios, so that what slows a round down slows both its parts.
+
+mod contenders;
+mod inputs;
+
+use contenders::{folded, Operation, Row};
+use inputs::Source;
+use std::fmt::Write as _;
+use std::fs::{self, File};
+use std::path::{Path, PathBuf};
+use std::process::{Command, Stdio};
+use std::time::Instant;
+
+const ROUNDS: usize = 41;
+
+/// Python takes part in one round of so many.
+const PYTHON_EVERY: usize = 5;
+
+/// How many calls each contender makes in a round; Python makes the first few of them.
+const CALLS: usize = 5_000;
+const PYTHON_CALLS: usize = 1_000;
+
+/// The rounds of whole processes.
+const PROCESS_ROUNDS: usize = 11;
+
+const BREATHS: usize = 65_536;
+
+fn main() {
+    let arguments: Vec<String> = std::env::args().skip(1).collect();
+    let [folder, night] = &arguments[..] else {
+        panic!("usage: bench FOLDER NIGHT")
+    };
+    contenders::start_gmp();
+    let mut source = Source::new(1);
+    let rows = rows(&mut source);
+    let recording = source.recording(BREATHS);
+    let room = std::env::temp_dir().join(format!("bench-{}", std::process::id()));
+    fs::create_dir_all(&room).expect("a temporary folder");
+    print!("{}", head());
+    print!("{}", table_of_calls(&rows, &room, Path::new(folder)));
+    print!(
+        "{}",
+        table_of_nights(&recording, &room, Path::new(folder), night)
+    );
+    fs::remove_dir_all(&room).expect("the temporary folder");
+}
+
+// Rows.
+
+const FIXED_15: (u64, u64) = (1, 15);
+const FIXED_31: (u64, u64) = (1, 31);
+const FLOATING_26: (u64, u64) = (2, 26);
+const FLOATING_32: (u64, u64) = (2, 32);
+
+const BINARY_NAMES: [&str; 4] = ["add", "subtract", "multiply", "divide"];
+const UNARY_NAMES: [&str; 7] = [
+    "negate",
+    "absolute value",
+    "reciprocal",
+    "floor",
+    "ceiling",
+    "mod 1",
+    "normalise",
+];
+
+fn rows(source: &mut Source) -> Vec<Row> {
+    use Operation::*;
+    let mut rows = Vec::new();
+    let mut ask = |name: &str, operation: Operation, form: (u64, u64), target: (u64, u64)| {
+        rows.push(row(source, name, operation, form, target));
+    };
+    for form in [FIXED_15, FIXED_31, FLOATING_32] {
+        ask("round", Round, form, form);
+    }
+    for form in [FIXED_15, FIXED_31, FLOATING_32] {
+        for (name, code) in BINARY_NAMES.into_iter().zip(1..) {
+            ask(name, Binary(code), form, form);
+        }
+    }
+    ask("compare", Compare, FIXED_15, FIXED_15);
+    for (name, code) in UNARY_NAMES.into_iter().zip(1..) {
+        ask(name, Unary(code), FIXED_15, FIXED_15);
+    }
+    ask("greatest common divisor", Gcd, FIXED_15, FIXED_15);
+    ask("partial quotients", Quotients, FIXED_15, FIXED_15);
+    ask("convert", Convert, FIXED_31, FIXED_15);
+    ask("convert", Convert, FIXED_15, FLOATING_26);
+    ask("add, a vector", BinaryEach(1), FIXED_15, FIXED_15);
+    ask("floor, a vector", UnaryEach(4), FIXED_15, FIXED_15);
+    ask("convert, a vector", ConvertEach, FIXED_31, FIXED_15);
+    rows
+}
+
+fn row(
+    source: &mut Source,
+    name: &str,
+    operation: Operation,
+    form: (u64, u64),
+    target: (u64, u64),
+) -> Row {
+    // Ratios of tick counts in the recorder's format, of any numbers in the largest.
+    let ratio_bits = if form == FIXED_15 { 32 } else { 64 };
+    let inputs: Vec<(u64, u64)> = (0..CALLS)
+        .map(|_| match operation {
+            Operation::Round => source.ratio(ratio_bits),
+            _ => (source.word(form), source.word(form)),
+        })
+        .collect();
+    let (left, right) = inputs.iter().copied().unzip();
+    let arrow = if form == target {
+        String::new()
+    } else {
+        format!(" to {}", format_name(target))
+    };
+    let name = format!("{name}, {}{arrow}", format_name(form));
+    Row {
+        name,
+        operation,
+        form,
+        target,
+        inputs,
+        left,
+        right,
+    }
+}
+
+fn format_name((kind, k): (u64, u64)) -> String {
+    format!("{} k = {k}", if kind == 1 { "fixed" } else { "floating" })
+}
+
+// Times.
+
+fn median(times: &[f64]) -> f64 {
+    let mut sorted = times.to_vec();
+    sorted.sort_by(f64::total_cmp);
+    sorted[sorted.len() / 2]
+}
+
+/// The median of how many times as long as the first the second took in the same round.
+fn ratio(first: &[f64], second: &[f64]) -> f64 {
+    let ratios: Vec<f64> = second.iter().zip(first).map(|(b, a)| b / a).collect();
+    median(&ratios)
+}
+
+/// The nanoseconds that a call takes, and its result.
+fn timed<T>(call: impl FnOnce() -> T) -> (f64, T) {
+    let start = Instant::now();
+    let result = call();
+    (start.elapsed().as_nanos() as f64, result)
+}
+
+const CONTENDERS: [fn(&Row, usize) -> u64; 3] =
+    [contenders::archive, contenders::hand, contenders::gmp];
+
+fn table_of_calls(rows: &[Row], room: &Path, folder: &Path) -> String {
+    let asked = room.join("rows");
+    write_rows(rows, &asked);
+    let mut times = vec![[(); 3].map(|()| Vec::new()); rows.len()];
+    // Python's times, each with the archive's of the same round.
+    let mut python_ratios = vec![Vec::new(); rows.len()];
+    for round in 0..ROUNDS {
+        for (row, times) in rows.iter().zip(&mut times) {
+            let mut sums = Vec::new();
+            for (contender, times) in CONTENDERS.into_iter().zip(times.iter_mut()) {
+                let (spent, sum) = timed(|| contender(row, CALLS));
+                times.push(spent / CALLS as f64);
+                sums.push(sum);
+            }
+            assert!(
+                sums.iter().all(|&sum| sum == sums[0]),
+                "{}: {sums:?}",
+                row.name
+            );
+        }
+        if round % PYTHON_EVERY == 0 {
+            let python = python_times(&folder.join("python_contender.py"), &asked);
+            assert_eq!(python.len(), rows.len());
+            for (at, (spent, sum)) in python.into_iter().enumerate() {
+                let expected = contenders::archive(&rows[at], PYTHON_CALLS);
+                assert_eq!(sum, expected, "{} in Python", rows[at].name);
+                python_ratios[at].push(spent / times[at][0][round]);
+            }
+        }
+    }
+    let mut table = String::from(
+        "## Calls\n\n\
+         Nanoseconds a call (a vector: a place), then how many times as long as the archive each of the \
+         others takes: below 1 it is faster, above 1 slower.\n\n\
+         | | Archive, ns | Hand-written Rust | GMP | Python's Fraction |\n|---|--:|--:|--:|--:|\n",
+    );
+    for ((row, [archive, hand, gmp]), python) in rows.iter().zip(&times).zip(&python_ratios) {
+        writeln!(
+            table,
+            "| {} | {:.1} | {:.2} | {:.1} | {:.0} |",
+            row.name,
+            median(archive),
+            ratio(archive, hand),
+            ratio(archive, gmp),
+            median(python)
+        )
+        .expect("a row");
+    }
+    table + "\n"
+}
+
+/// Writes the first inputs of all rows for Python.
+fn write_rows(rows: &[Row], path: &Path) {
+    let mut text = String::new();
+    for row in rows {
+        let ((kind, k), (to_kind, to_k)) = (row.form, row.target);
+        let (name, code) = contenders::python_name(row.operation);
+        text += &format!("{name} {code} {kind} {k} {to_kind} {to_k} {PYTHON_CALLS}\n");
+        for (a, b) in &row.inputs[..PYTHON_CALLS] {
+            text += &format!("{a} {b}\n");
+        }
+    }
+    fs::write(path, text).expect("the rows");
+}
+
+/// The nanoseconds a call and the checksum of each row, by Python's own clock.
+fn python_times(script: &Path, rows: &Path) -> Vec<(f64, u64)> {
+    let output = Command::new("python3")
+        .arg(script)
+        .arg(rows)
+        .output()
+        .expect("python3");
+    assert!(
+        output.status.success(),
+        "{}",
+        String::from_utf8_lossy(&output.stderr)
+    );
+    let text = String::from_utf8(output.stdout).expect("text");
+    let parse = |line: &str| {
+        let (spent, sum) = line.split_once(' ').expect("two numbers");
+        (
+            spent.parse().expect("nanoseconds"),
+            sum.parse().expect("a checksum"),
+        )
+    };
+    text.lines().map(parse).collect()
+}
+
+// Nights.
+
+fn table_of_nights(recording: &[u8], room: &Path, folder: &Path, night: &str) -> String {
+    let input = room.join("recording");
+    fs::write(&input, recording).expect("the recording");
+    let mut table = format!(
+        "## A night\n\nA recording of {BREATHS} breaths like a sleeper's, {} bytes.\n\n",
+        recording.len()
+    );
+    table += &in_memory(recording);
+    table += &whole_processes(&input, &folder.join("night.py"), night);
+    table
+}
+
+/// The library's function beside the hand-written one.
+fn in_memory(recording: &[u8]) -> String {
+    let mut listing = vec![0; slash::raw::LISTING_BYTES];
+    let mut times = [Vec::new(), Vec::new()];
+    for _ in 0..ROUNDS {
+        // SAFETY: the listing has the bytes that the function is lent.
+        let (spent, length) = timed(|| unsafe {
+            let (start, count) = (recording.as_ptr(), recording.len());
+            slash::raw::slash_night(start, count, listing.as_mut_ptr()) as usize
+        });
+        let sum = folded(listing[..length].iter().map(|&byte| byte.into()));
+        times[0].push(spent / BREATHS as f64);
+        let (spent, length) = timed(|| hand::night::night(recording, &mut listing));
+        assert_eq!(
+            sum,
+            folded(listing[..length].iter().map(|&byte| byte.into()))
+        );
+        times[1].push(spent / BREATHS as f64);
+    }
+    let [archive, hand] = &times;
+    format!(
+        "In memory: the archive's `slash_night` takes {:.1} ns a breath, hand-written Rust {:.2} times \
+         as long.\n\n",
+        median(archive),
+        ratio(archive, hand)
+    )
+}
+
+/// A contender as a process: its name, its program and its arguments.
+type Process<'a> = (&'a str, PathBuf, Vec<PathBuf>);
+
+fn whole_processes(input: &Path, script: &Path, night: &str) -> String {
+    let hand = std::env::current_exe()
+        .expect("this program")
+        .with_file_name("hand-night");
+    let mut processes: Vec<Process> = vec![
+        ("hand-written Rust", hand, Vec::new()),
+        (
+            "Python script",
+            "python3".into(),
+            vec![script.to_path_buf()],
+        ),
+        ("`cat`, the floor", "cat".into(), Vec::new()),
+    ];
+    if night != "-" {
+        processes.insert(0, ("`night`", night.into(), Vec::new()));
+    }
+    let expected = run(&processes[0], input, Stdio::piped());
+    for process in processes
+        .iter()
+        .filter(|process| process.1 != Path::new("cat"))
+    {
+        assert!(
+            run(process, input, Stdio::piped()) == expected,
+            "{} lists otherwise",
+            process.0
+        );
+    }
+    let mut times = vec![Vec::new(); processes.len()];
+    for _ in 0..PROCESS_ROUNDS {
+        for (process, times) in processes.iter().zip(&mut times) {
+            times.push(timed(|| run(process, input, Stdio::null())).0 / 1e6);
+        }
+    }
+    let mut table = format!(
+        "Whole processes, from a file to the null device, medians of {PROCESS_ROUNDS} rounds, and how \
+         many times as long as {} each takes.\n\n| | ms | |\n|---|--:|--:|\n",
+        processes[0].0
+    );
+    for (process, spent) in processes.iter().zip(&times) {
+        let ratio = ratio(&times[0], spent);
+        writeln!(
+            table,
+            "| {} | {:.1} | {ratio:.2} |",
+            process.0,
+            median(spent)
+        )
+        .expect("a row");
+    }
+    table
+}
+
+fn run((name, program, arguments): &Process, input: &Path, output: Stdio) -> Vec<u8> {
+    let file = File::open(input).expect("the recording");
+    let mut command = Command::new(program);
+    let child = command.args(arguments).stdin(file).stdout(output).spawn();
+    let ended = child
+        .and_then(|child| child.wait_with_output())
+        .expect(name);
+    assert!(ended.status.success(), "{name}");
+    ended.stdout
+}
+
+// The head of the table.
+
+fn head() -> String {
+    let processor = fs::read_to_string("/proc/cpuinfo").unwrap_or_default();
+    let model = processor
+        .lines()
+        .find_map(|line| line.strip_prefix("model name")?.split_once(": "))
+        .map_or("unknown", |(_, model)| model);
+    let date = Command::new("date")
+        .args(["-u", "+%Y-%m-%d"])
+        .output()
+        .expect("date");
+    format!(
+        "# Speed\n\nWritten by `bench/run` on {}, on {model}. Medians of {ROUNDS} rounds in which the \
+         contenders take turns; inputs are random and the same for each, and the results' checksums \
+         were equal. The archive is the proved library. The hand-written Rust is `bench/hand`: the same \
+         algorithm, optimised. GMP's rationals with the continued fraction cut in C are `bench/gmp.c`; \
+         Python's Fraction is `bench/python_contender.py`.\n\n",
+        String::from_utf8_lossy(&date.stdout).trim()
+    )
+}

@@ -1,0 +1,21 @@
+-- `ffi::words::slash_unary` meets its contract. Assumes nothing.
+use Rattle.ffi.proofs.StatusLaws.{stored-best}
+use Rattle.ffi.specs.Status.{formatOf}
+use Rattle.unary.proofs.UnaryLaws.{unary-best}
+use borrow.Author.Needs.{needs}
+use Rattle.ffi.proofs.words.slash_unary.Statement.{statement}
+use Rattle.ffi.proofs.words.slash_unary.Tie as tie
+
+unary-requires : tie.Need-unary-requires
+unary-requires c κs = search needs
+
+store-requires : tie.Need-store-requires
+store-requires c κs = search needs
+
+returns : tie.Need-returns
+returns c =
+    let start = c .before .before .before .args in
+    stored-best _ (c .before .before .unary .result) (c .before .before .unary .ensures .0) _ (unary-best (formatOf (start .kind) (start .k)) (start .code) (start .operand)) _ _ _ (c .store .ensures)
+
+pub slash-unary-spec : {M : Type 1} → statement M
+slash-unary-spec = tie.close (tie.spec unary-requires store-requires returns)

@@ -1,0 +1,2 @@
+-- What a call from C answers.
+pub mod Status

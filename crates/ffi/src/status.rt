@@ -1,0 +1,41 @@
+// What a call returns, and what goes behind a pointer.
+ghost use mathlib.Core.Path.{_≡_};
+ghost use Prim.Native.Nat.{_+_, _*_, _%_};
+ghost use Rattle.slash.specs.Answers.{outcome, stop};
+ghost use Rattle.vectors.specs.Each.{storedOutcome};
+ghost use Rattle.ffi.specs.Status.{status, behind};
+use slash::Answer;
+use slash::Stop;
+use vectors::Stored;
+
+// 2^56: so many places can be told.
+const PLACES: u64 = 72057594037927936;
+
+fn stop_status(s: Stop) -> u64
+    ensures { λ r. ⌜ r ≡ s .place % 72057594037927936 * 256 + s .number % 256 ⌝ }
+{
+    s.place % PLACES * 256 + s.number % 256
+}
+
+// The result of an answer goes behind the pointer.
+pub(crate) fn store(a: Answer, to: &mut u64) -> u64
+    ensures returned { λ r. ⌜ r ≡ status (outcome a) ⌝ }
+    ensures stored { λ _. ⌜ now (to .exit) ≡ behind (outcome a) (now (to .entry)) ⌝ }
+{
+    match a {
+        Answer::Done(n) => {
+            *to = n;
+            0
+        }
+        Answer::Stopped(s) => stop_status(s),
+    }
+}
+
+pub(crate) fn of_vector(r: Stored) -> u64
+    ensures { λ n. ⌜ n ≡ status (storedOutcome r) ⌝ }
+{
+    match r {
+        Stored::Done => 0,
+        Stored::Stopped(s) => stop_status(s),
+    }
+}

@@ -1,0 +1,147 @@
+// Calls on one word or two.
+ghost use mathlib.Core.Path.{_≡_};
+ghost use Prim.Native.Nat.{_≤_};
+ghost use Rattle.slash.specs.Answers.{outcome, done, _then_, WhenDone};
+ghost use Rattle.slash.specs.Words.{numberOf, writeNumber, BestFor, BestWord};
+ghost use Rattle.arithmetic.specs.Binary.{exactValue, binaryWord};
+ghost use Rattle.arithmetic.specs.Comparison.{comparisonOutcome};
+ghost use Rattle.arithmetic.specs.Conversion.{convertWord};
+ghost use Rattle.unary.specs.Unary.{exactUnary, unaryWord};
+ghost use Rattle.unary.specs.Divisor.{gcdWord};
+ghost use Rattle.unary.specs.Quotients.{wordQuotients, quotientCount, listed};
+ghost use Rattle.ffi.specs.Status.{status, behind, formatOf, ratioOf, orderNumber, compareNumber};
+use crate::status::store;
+use arithmetic::Comparison;
+use arithmetic::Order;
+use slash::Answer;
+use slash::Format;
+use slash::Number;
+use slash::Parts;
+use slash::Value;
+
+// n/d rounded into a format: the word. Stops 1, 6.
+#[no_mangle]
+pub extern "C" fn slash_round(kind: u64, k: u64, n: u64, d: u64, word: &mut u64) -> u64
+    ensures returned { λ r. ⌜ r ≡ status (writeNumber (formatOf kind k) (ratioOf n d)) ⌝ }
+    ensures stored { λ _. ⌜ now (word .exit) ≡ behind (writeNumber (formatOf kind k) (ratioOf n d)) (now (word .entry)) ⌝ }
+    ensures best { λ _. ⌜ WhenDone (writeNumber (formatOf kind k) (ratioOf n d)) (λ _. BestFor (formatOf kind k) n d (now (word .exit))) ⌝ }
+{
+    let p = Parts {
+        negative: false,
+        numerator: n,
+        denominator: d,
+    };
+    let x = Number {
+        value: Value::Fraction(p),
+        approximate: false,
+    };
+    store(slash::write(Format { kind: kind, k: k }, x), word)
+}
+
+// A binary operation. Stops 1, 2, 4, 5.
+#[no_mangle]
+pub extern "C" fn slash_binary(
+    kind: u64,
+    k: u64,
+    code: u64,
+    left: u64,
+    right: u64,
+    word: &mut u64,
+) -> u64
+    ensures returned { λ r. ⌜ r ≡ status (binaryWord (formatOf kind k) code left right) ⌝ }
+    ensures stored { λ _. ⌜ now (word .exit) ≡ behind (binaryWord (formatOf kind k) code left right) (now (word .entry)) ⌝ }
+    ensures best { λ _. ⌜ WhenDone (binaryWord (formatOf kind k) code left right) (λ _. BestWord (formatOf kind k) (exactValue code (numberOf (formatOf kind k) left .value) (numberOf (formatOf kind k) right .value)) (now (word .exit))) ⌝ }
+{
+    let f = Format { kind: kind, k: k };
+    store(arithmetic::binary(f, code, left, right), word)
+}
+
+// A unary operation. Stops 1, 2, 4, 5.
+#[no_mangle]
+pub extern "C" fn slash_unary(kind: u64, k: u64, code: u64, operand: u64, word: &mut u64) -> u64
+    ensures returned { λ r. ⌜ r ≡ status (unaryWord (formatOf kind k) code operand) ⌝ }
+    ensures stored { λ _. ⌜ now (word .exit) ≡ behind (unaryWord (formatOf kind k) code operand) (now (word .entry)) ⌝ }
+    ensures best { λ _. ⌜ WhenDone (unaryWord (formatOf kind k) code operand) (λ _. 3 ≤ code → BestWord (formatOf kind k) (exactUnary code (numberOf (formatOf kind k) operand .value)) (now (word .exit))) ⌝ }
+{
+    let f = Format { kind: kind, k: k };
+    store(unary::unary(f, code, operand), word)
+}
+
+fn order_number(o: Order) -> u64
+    ensures { λ r. ⌜ r ≡ orderNumber o ⌝ }
+{
+    match o {
+        Order::Below => 0,
+        Order::Equal => 1,
+        Order::Above => 2,
+        Order::Unordered => 3,
+    }
+}
+
+fn order_answer(c: Comparison) -> Answer
+    ensures { λ r. ⌜ outcome r ≡ (comparisonOutcome c then λ o. done (orderNumber o)) ⌝ }
+{
+    match c {
+        Comparison::Done(o) => Answer::Done(order_number(o)),
+        Comparison::Stopped(s) => Answer::Stopped(s),
+    }
+}
+
+// 0 below, 1 equal, 2 above, 3 unordered. Stops 1, 4, 5.
+#[no_mangle]
+pub extern "C" fn slash_compare(kind: u64, k: u64, left: u64, right: u64, order: &mut u64) -> u64
+    ensures returned { λ r. ⌜ r ≡ status (compareNumber (formatOf kind k) left right) ⌝ }
+    ensures stored { λ _. ⌜ now (order .exit) ≡ behind (compareNumber (formatOf kind k) left right) (now (order .entry)) ⌝ }
+{
+    let f = Format { kind: kind, k: k };
+    store(order_answer(arithmetic::compare(f, left, right)), order)
+}
+
+// The greatest common divisor of the stored parts. Stops 1, 4, 5.
+#[no_mangle]
+pub extern "C" fn slash_gcd(kind: u64, k: u64, operand: u64, divisor: &mut u64) -> u64
+    ensures returned { λ r. ⌜ r ≡ status (gcdWord (formatOf kind k) operand) ⌝ }
+    ensures stored { λ _. ⌜ now (divisor .exit) ≡ behind (gcdWord (formatOf kind k) operand) (now (divisor .entry)) ⌝ }
+{
+    let f = Format { kind: kind, k: k };
+    store(unary::gcd(f, operand), divisor)
+}
+
+// A word as a word of another format. Stops 1, 4, 5.
+#[no_mangle]
+pub extern "C" fn slash_convert(
+    kind: u64,
+    k: u64,
+    tokind: u64,
+    tok: u64,
+    operand: u64,
+    word: &mut u64,
+) -> u64
+    ensures returned { λ r. ⌜ r ≡ status (convertWord (formatOf kind k) (formatOf tokind tok) operand) ⌝ }
+    ensures stored { λ _. ⌜ now (word .exit) ≡ behind (convertWord (formatOf kind k) (formatOf tokind tok) operand) (now (word .entry)) ⌝ }
+    ensures best { λ _. ⌜ WhenDone (convertWord (formatOf kind k) (formatOf tokind tok) operand) (λ _. BestWord (formatOf tokind tok) (numberOf (formatOf kind k) operand .value) (now (word .exit))) ⌝ }
+{
+    let source = Format { kind: kind, k: k };
+    let target = Format {
+        kind: tokind,
+        k: tok,
+    };
+    store(arithmetic::convert(source, target, operand), word)
+}
+
+// The partial quotients into a lent list, and their count. Stops 1, 4, 5, 7.
+#[no_mangle]
+pub extern "C" fn slash_quotients(
+    kind: u64,
+    k: u64,
+    operand: u64,
+    list: &mut [u32],
+    count: &mut u64,
+) -> u64
+    ensures returned { λ r. ⌜ r ≡ status (quotientCount (formatOf kind k) operand (now (list .entry))) ⌝ }
+    ensures stored { λ _. ⌜ now (list .exit) ≡ listed (wordQuotients (formatOf kind k) operand) (now (list .entry)) ⌝ }
+    ensures counted { λ _. ⌜ now (count .exit) ≡ behind (quotientCount (formatOf kind k) operand (now (list .entry))) (now (count .entry)) ⌝ }
+{
+    let f = Format { kind: kind, k: k };
+    store(unary::quotients(f, operand, list), count)
+}

@@ -1,0 +1,137 @@
+/* Slash arithmetic for breath ratios: the proved archive's functions.
+ *
+ * A word travels in 64 bits. Its format is a kind and a number k:
+ *
+ *   SLASH_FIXED, k from 2 to 31      2k + 2 bits: the sign at bit 2k + 1, the numerator at bits
+ *                                    2k to k + 1, the mark at bit k, the denominator below
+ *   SLASH_FLOATING, k from 2 to 32   k + L + 1 bits, L the least with 2^L >= k: the sign, the
+ *                                    mark, the slash position e in L bits, the field f in k - 1
+ *
+ * The mark is 1 where the value is approximate. A word stands for a signed fraction, zero, infinity
+ * or not-a-number. Results are canonical, but negation and absolute value change the sign's bit alone.
+ *
+ * What a call returns
+ *
+ *   Each function but slash_night returns 0 where nothing stopped. Otherwise it returns the place
+ *   times 256 plus the stop's number (SLASH_STOP_NUMBER, SLASH_STOP_PLACE), and changes nothing
+ *   behind any pointer. The place is an index from 0 in the vector functions' stops 4 and 5, else 0.
+ *   Where several stops would apply, the checks run in the order of the numbers; of words, the
+ *   lowest place comes first, then the left operand, and within one word 4 before 5.
+ *
+ * What the caller owes
+ *
+ *   Every pointer is aligned and not null, also where its length is 0, and points to as many numbers
+ *   as the length after it says; a pointer without a length points to one number (a listing to
+ *   SLASH_LISTING_BYTES bytes). What a call may write through one pointer is reached through no
+ *   other pointer of that call: results don't overlap operands. Nothing else writes there meanwhile.
+ */
+#ifndef SLASH_H
+#define SLASH_H
+
+#include <stddef.h>
+#include <stdint.h>
+
+#ifdef __cplusplus
+extern "C" {
+#endif
+
+/* Kinds. */
+#define SLASH_FIXED 1
+#define SLASH_FLOATING 2
+
+/* Codes of slash_binary and slash_binary_each. */
+#define SLASH_ADD 1
+#define SLASH_SUBTRACT 2
+#define SLASH_MULTIPLY 3
+#define SLASH_DIVIDE 4
+
+/* Codes of slash_unary and slash_unary_each. */
+#define SLASH_NEGATE 1
+#define SLASH_ABSOLUTE 2
+#define SLASH_RECIPROCAL 3
+#define SLASH_FLOOR 4
+#define SLASH_CEILING 5
+#define SLASH_MOD_ONE 6
+#define SLASH_NORMALISE 7
+
+/* What slash_compare stores. */
+#define SLASH_BELOW 0
+#define SLASH_EQUAL 1
+#define SLASH_ABOVE 2
+#define SLASH_UNORDERED 3
+
+/* Stops. */
+#define SLASH_UNKNOWN_FORMAT 1           /* unknown kind or k */
+#define SLASH_UNKNOWN_CODE 2             /* unknown operation code */
+#define SLASH_UNEQUAL_LENGTHS 3          /* vectors of unequal length */
+#define SLASH_BITS_ABOVE_WIDTH 4         /* word with bits above its width */
+#define SLASH_UNDEFINED_SLASH_POSITION 5 /* floating word whose e lies between k - 1 and 2^L - 2 */
+#define SLASH_DENOMINATOR_ZERO 6         /* denominator 0 given to rounding */
+#define SLASH_LIST_TOO_SHORT 7           /* quotient list shorter than the quotients */
+
+/* A returned number that isn't 0, taken apart. */
+#define SLASH_STOP_NUMBER(returned) ((returned) % 256)
+#define SLASH_STOP_PLACE(returned) ((returned) / 256)
+
+/* The bytes that slash_night is lent: those of the longest listing. */
+#define SLASH_LISTING_BYTES 2162719
+
+/* Stores the word, of sign 0, of n/d rounded into the format: the last convergent that it holds,
+ * marked if its value isn't n/d. No other held pair comes closer. Stops 1, 6. */
+uint64_t slash_round(uint64_t kind, uint64_t k, uint64_t n, uint64_t d, uint64_t *word);
+
+/* Stores the word of left + right, left - right, left * right or left / right: the exact result,
+ * rounded. Marked if an operand is or rounding changed the value. Stops 1, 2, 4, 5. */
+uint64_t slash_binary(uint64_t kind, uint64_t k, uint64_t code, uint64_t left, uint64_t right,
+                      uint64_t *word);
+
+/* Stores the word of the operand negated, its absolute value, reciprocal, floor, ceiling, what is
+ * left of it modulo 1, or itself normalised. Stops 1, 2, 4, 5. */
+uint64_t slash_unary(uint64_t kind, uint64_t k, uint64_t code, uint64_t operand, uint64_t *word);
+
+/* Stores how the left value lies to the right one: SLASH_BELOW, SLASH_EQUAL, SLASH_ABOVE, or
+ * SLASH_UNORDERED with a not-a-number. Stops 1, 4, 5. */
+uint64_t slash_compare(uint64_t kind, uint64_t k, uint64_t left, uint64_t right, uint64_t *order);
+
+/* Stores the greatest common divisor of the stored parts of a nonzero fraction, 0 for any other
+ * value. Stops 1, 4, 5. */
+uint64_t slash_gcd(uint64_t kind, uint64_t k, uint64_t operand, uint64_t *divisor);
+
+/* Stores the word of the format to_kind, to_k for a word of the format kind, k: rounded if finite,
+ * with its sign. Stops 1 (for kind, k, then for to_kind, to_k), 4, 5. */
+uint64_t slash_convert(uint64_t kind, uint64_t k, uint64_t to_kind, uint64_t to_k,
+                       uint64_t operand, uint64_t *word);
+
+/* Stores the partial quotients of the absolute value, first one first, at the start of the list,
+ * leaves the rest of the list as it was, and stores their count, at most 2k: 1 for a zero, 0 for an
+ * infinity or a not-a-number. Stops 1, 4, 5, 7. */
+uint64_t slash_quotients(uint64_t kind, uint64_t k, uint64_t operand, uint32_t *list,
+                         size_t list_length, uint64_t *count);
+
+/* slash_binary at each place: out[i] from left[i] and right[i]. Stops 1, 2, 3 (unless all three
+ * lengths are equal), then 4 and 5 with the index as place. */
+uint64_t slash_binary_each(uint64_t kind, uint64_t k, uint64_t code, const uint64_t *left,
+                           size_t left_length, const uint64_t *right, size_t right_length,
+                           uint64_t *out, size_t out_length);
+
+/* slash_unary at each place: out[i] from operand[i]. Stops 1, 2, 3 (unless both lengths are equal),
+ * then 4 and 5 with the index as place. */
+uint64_t slash_unary_each(uint64_t kind, uint64_t k, uint64_t code, const uint64_t *operand,
+                          size_t operand_length, uint64_t *out, size_t out_length);
+
+/* slash_convert at each place: out[i] from operand[i]. Stops 1 (for kind, k, then for to_kind,
+ * to_k), 3 (unless both lengths are equal), then 4 and 5 with the index as place. */
+uint64_t slash_convert_each(uint64_t kind, uint64_t k, uint64_t to_kind, uint64_t to_k,
+                            const uint64_t *operand, size_t operand_length, uint64_t *out,
+                            size_t out_length);
+
+/* Writes the listing of a night's recording, what the program `night` prints for it, at the start of
+ * the listing, leaves the rest as it was, and returns the listing's length. A recording that is
+ * refused gets its stop, from 8 to 12, in the listing's last line: `refused`, the number, the line. */
+uint64_t slash_night(const uint8_t *recording, size_t recording_length, uint8_t *listing);
+
+#ifdef __cplusplus
+}
+#endif
+
+#endif

@@ -1,0 +1,154 @@
+//! The hand-written Rust of bench/hand under the archive's names and with its C interface.
+//!
+//! # Safety
+//!
+//! As for the archive: pointers are aligned and not null, and have the lengths that are given.
+#![allow(clippy::missing_safety_doc)]
+
+use std::slice::{from_raw_parts, from_raw_parts_mut};
+
+/// Stores an answer, or returns the stop's place times 256 plus its number.
+unsafe fn store(answer: hand::Answer, place: *mut u64) -> u64 {
+    match answer {
+        Ok(number) => {
+            *place = number;
+            0
+        }
+        Err(status) => status,
+    }
+}
+
+fn status(answer: hand::Answer) -> u64 {
+    answer.err().unwrap_or(0)
+}
+
+#[no_mangle]
+pub unsafe extern "C" fn slash_round(kind: u64, k: u64, n: u64, d: u64, word: *mut u64) -> u64 {
+    store(hand::round(kind, k, n, d), word)
+}
+
+#[no_mangle]
+pub unsafe extern "C" fn slash_binary(
+    kind: u64,
+    k: u64,
+    code: u64,
+    left: u64,
+    right: u64,
+    word: *mut u64,
+) -> u64 {
+    store(hand::binary(kind, k, code, left, right), word)
+}
+
+#[no_mangle]
+pub unsafe extern "C" fn slash_unary(
+    kind: u64,
+    k: u64,
+    code: u64,
+    operand: u64,
+    word: *mut u64,
+) -> u64 {
+    store(hand::unary(kind, k, code, operand), word)
+}
+
+#[no_mangle]
+pub unsafe extern "C" fn slash_compare(
+    kind: u64,
+    k: u64,
+    left: u64,
+    right: u64,
+    order: *mut u64,
+) -> u64 {
+    store(hand::compare(kind, k, left, right), order)
+}
+
+#[no_mangle]
+pub unsafe extern "C" fn slash_gcd(kind: u64, k: u64, operand: u64, divisor: *mut u64) -> u64 {
+    store(hand::gcd(kind, k, operand), divisor)
+}
+
+#[no_mangle]
+pub unsafe extern "C" fn slash_convert(
+    kind: u64,
+    k: u64,
+    to_kind: u64,
+    to_k: u64,
+    operand: u64,
+    word: *mut u64,
+) -> u64 {
+    store(hand::convert(kind, k, to_kind, to_k, operand), word)
+}
+
+#[no_mangle]
+pub unsafe extern "C" fn slash_quotients(
+    kind: u64,
+    k: u64,
+    operand: u64,
+    list: *mut u32,
+    list_length: usize,
+    count: *mut u64,
+) -> u64 {
+    let list = from_raw_parts_mut(list, list_length);
+    store(hand::quotients(kind, k, operand, list), count)
+}
+
+#[no_mangle]
+pub unsafe extern "C" fn slash_binary_each(
+    kind: u64,
+    k: u64,
+    code: u64,
+    left: *const u64,
+    left_length: usize,
+    right: *const u64,
+    right_length: usize,
+    out: *mut u64,
+    out_length: usize,
+) -> u64 {
+    let (left, right) = (
+        from_raw_parts(left, left_length),
+        from_raw_parts(right, right_length),
+    );
+    let out = from_raw_parts_mut(out, out_length);
+    status(hand::binary_each(kind, k, code, left, right, out))
+}
+
+#[no_mangle]
+pub unsafe extern "C" fn slash_unary_each(
+    kind: u64,
+    k: u64,
+    code: u64,
+    operand: *const u64,
+    operand_length: usize,
+    out: *mut u64,
+    out_length: usize,
+) -> u64 {
+    let operand = from_raw_parts(operand, operand_length);
+    let out = from_raw_parts_mut(out, out_length);
+    status(hand::unary_each(kind, k, code, operand, out))
+}
+
+#[no_mangle]
+pub unsafe extern "C" fn slash_convert_each(
+    kind: u64,
+    k: u64,
+    to_kind: u64,
+    to_k: u64,
+    operand: *const u64,
+    operand_length: usize,
+    out: *mut u64,
+    out_length: usize,
+) -> u64 {
+    let operand = from_raw_parts(operand, operand_length);
+    let out = from_raw_parts_mut(out, out_length);
+    status(hand::convert_each(kind, k, to_kind, to_k, operand, out))
+}
+
+#[no_mangle]
+pub unsafe extern "C" fn slash_night(
+    recording: *const u8,
+    recording_length: usize,
+    listing: *mut u8,
+) -> u64 {
+    let recording = from_raw_parts(recording, recording_length);
+    let listing = from_raw_parts_mut(listing, hand::night::LISTING_BYTES);
+    hand::night::night(recording, listing) as u64
+}

@@ -1,0 +1,221 @@
+//! Answers the request lines of the second program, or with `night` its recipes, from standard input.
+
+use differential::night;
+use differential::paper::{self, Answer, Format, Number, Size, Stop};
+use std::cmp::Ordering;
+use std::io::{self, BufWriter, Read, Write};
+
+fn main() -> io::Result<()> {
+    let mut input = String::new();
+    io::stdin().read_to_string(&mut input)?;
+    let mut output = BufWriter::new(io::stdout().lock());
+    let recipes = std::env::args().nth(1).as_deref() == Some("night");
+    for line in input.lines() {
+        if recipes {
+            output.write_all(&recipe_answer(line))?;
+        } else {
+            output.write_all(request_answer(line).as_bytes())?;
+        }
+        output.write_all(b"\n")?;
+    }
+    output.flush()
+}
+
+// Requests.
+
+fn request_answer(line: &str) -> String {
+    let mut words = line.split(' ');
+    let letter = words.next().unwrap_or("");
+    let numbers: Vec<u64> = words.map(|word| word.parse().expect("a number")).collect();
+    answer(letter, &numbers).unwrap_or_else(stop_text)
+}
+
+fn stop_text(stop: Stop) -> String {
+    format!("stop {} {}", stop.number, stop.place)
+}
+
+fn answer(letter: &str, numbers: &[u64]) -> Answer<String> {
+    match (letter, numbers) {
+        ("c", &[n, d]) => Ok(joined(
+            paper::convergents(n.into(), d.into())
+                .iter()
+                .map(|(r, s)| format!("{r}/{s}")),
+        )),
+        ("v", &[kind, k, to_kind, to_k, word]) => {
+            let (source, target) = (paper::format(kind, k)?, paper::format(to_kind, to_k)?);
+            hexadecimal(paper::convert(source, target, word))
+        }
+        ("V", &[kind, k, to_kind, to_k]) => {
+            let (source, target) = (paper::format(kind, k)?, paper::format(to_kind, to_k)?);
+            Ok(each(source, |word| {
+                hexadecimal(paper::convert(source, target, word))
+            }))
+        }
+        ("q", &[kind, k, length, word]) => Ok(quotients_answer(kind, k, length, word)),
+        ("x", &[kind, k, code, left, right, _, ref words @ ..]) => {
+            Ok(vector_answer(words, left + right, |operands, out| {
+                let (left, right) = operands.split_at(left as usize);
+                paper::binary_each((kind, k), code, left, right, out)
+            }))
+        }
+        ("y", &[kind, k, code, length, _, ref words @ ..]) => {
+            Ok(vector_answer(words, length, |operand, out| {
+                paper::unary_each((kind, k), code, operand, out)
+            }))
+        }
+        ("z", &[kind, k, to_kind, to_k, length, _, ref words @ ..]) => {
+            Ok(vector_answer(words, length, |operand, out| {
+                paper::convert_each((kind, k), (to_kind, to_k), operand, out)
+            }))
+        }
+        (_, &[kind, k, ref rest @ ..]) => format_answer(letter, paper::format(kind, k)?, rest),
+        _ => panic!("unknown request {letter} {numbers:?}"),
+    }
+}
+
+/// The answers of the requests that begin with one format.
+fn format_answer(letter: &str, form: Format, numbers: &[u64]) -> Answer<String> {
+    match (letter, numbers) {
+        ("f", []) => {
+            let largest = form.largest_part();
+            Ok(format!("{} {largest} {largest}", form.width()))
+        }
+        ("r", &[word]) => paper::read(form, word).map(number_text),
+        ("w", &[class, sign, n, d, mark]) => {
+            let size = [
+                Size::Finite((n.into(), d.into())),
+                Size::Finite((0, 1)),
+                Size::Infinite,
+                Size::NotANumber,
+            ][class as usize];
+            hexadecimal(paper::write(
+                form,
+                Number {
+                    negative: sign == 1,
+                    marked: mark == 1,
+                    size,
+                },
+            ))
+        }
+        ("n", &[_, 0]) => Err(Stop {
+            number: 6,
+            place: 0,
+        }),
+        ("n", &[n, d]) => {
+            let (n, d) = (n.into(), d.into());
+            let (r, s) = paper::rounded(form, n, d);
+            Ok(format!("{r}/{s} {}", u8::from(s * n != r * d)))
+        }
+        ("b", &[code, left, right]) => hexadecimal(paper::binary(form, code, left, right)),
+        ("B", &[code, left]) => Ok(each(form, |right| {
+            hexadecimal(paper::binary(form, code, left, right))
+        })),
+        ("o", &[left, right]) => {
+            paper::compare(form, left, right).map(|order| order_texts(order).0.to_string())
+        }
+        ("O", &[left]) => Ok((0..1 << form.width())
+            .map(|right| {
+                paper::compare(form, left, right).map_or('!', |order| order_texts(order).1)
+            })
+            .collect()),
+        ("u", &[code, word]) => hexadecimal(paper::unary(form, code, word)),
+        ("U", &[code]) => Ok(each(form, |word| {
+            hexadecimal(paper::unary(form, code, word))
+        })),
+        ("g", &[word]) => paper::gcd(form, word).map(|divisor| divisor.to_string()),
+        ("G", []) => Ok(each(form, |word| {
+            paper::gcd(form, word).map(|divisor| divisor.to_string())
+        })),
+        _ => panic!("unknown request {letter} {numbers:?}"),
+    }
+}
+
+fn hexadecimal(word: Answer<u64>) -> Answer<String> {
+    word.map(|word| format!("{word:x}"))
+}
+
+fn joined(texts: impl Iterator<Item = String>) -> String {
+    texts.collect::<Vec<_>>().join(" ")
+}
+
+/// What is answered for each word of the format, a stop as !S.
+fn each(form: Format, operation: impl Fn(u64) -> Answer<String>) -> String {
+    joined(
+        (0..1 << form.width())
+            .map(|word| operation(word).unwrap_or_else(|stop| format!("!{}", stop.number))),
+    )
+}
+
+fn number_text(number: Number) -> String {
+    let mark = u8::from(number.marked);
+    let sign = if number.negative { '-' } else { '+' };
+    match number.size {
+        Size::NotANumber => format!("nan {mark}"),
+        Size::Infinite => format!("{sign} infinity {mark}"),
+        Size::Finite((0, _)) => format!("{sign} zero {mark}"),
+        Size::Finite((n, d)) => format!("{sign} {n}/{d} {mark}"),
+    }
+}
+
+fn order_texts(order: Option<Ordering>) -> (&'static str, char) {
+    match order {
+        Some(Ordering::Less) => ("below", '<'),
+        Some(Ordering::Equal) => ("equal", '='),
+        Some(Ordering::Greater) => ("above", '>'),
+        None => ("unordered", '?'),
+    }
+}
+
+fn quotients_answer(kind: u64, k: u64, length: u64, word: u64) -> String {
+    let mut list = vec![4242; length as usize];
+    let count = paper::format(kind, k).and_then(|form| paper::quotients(form, word, &mut list));
+    let first = count.map_or_else(stop_text, |count| count.to_string());
+    joined(std::iter::once(first).chain(list.iter().map(u32::to_string)))
+}
+
+/// What is answered for a vector form, whose lent result is what comes after the operands.
+fn vector_answer(
+    words: &[u64],
+    operands: u64,
+    operation: impl Fn(&[u64], &mut [u64]) -> Answer<()>,
+) -> String {
+    let (operands, lent) = words.split_at(operands as usize);
+    let mut out = lent.to_vec();
+    let first = operation(operands, &mut out).map_or_else(stop_text, |()| "done".to_string());
+    joined(std::iter::once(first).chain(out.iter().map(|word| format!("{word:x}"))))
+}
+
+// Recipes.
+
+const LONGEST_SHOWN: usize = 2000;
+const END_SHOWN: usize = 64;
+
+fn recipe_answer(line: &str) -> Vec<u8> {
+    if line.starts_with('#') {
+        return line.as_bytes().to_vec();
+    }
+    let recording: Vec<u8> = line
+        .split(' ')
+        .filter(|piece| !piece.is_empty())
+        .flat_map(piece)
+        .collect();
+    let listing = night::listing(&recording);
+    if listing.len() <= LONGEST_SHOWN {
+        return listing;
+    }
+    let checksum = listing.iter().fold(0u32, |h, &byte| {
+        h.wrapping_mul(31).wrapping_add(byte.into())
+    });
+    let mut shown = format!("{} {checksum}\n", listing.len()).into_bytes();
+    shown.extend(&listing[listing.len() - END_SHOWN..]);
+    shown
+}
+
+fn piece(text: &str) -> Vec<u8> {
+    let (count, digits) = text.split_once('*').expect("a piece");
+    let bytes: Vec<u8> = (0..digits.len())
+        .step_by(2)
+        .map(|at| u8::from_str_radix(&digits[at..at + 2], 16).expect("two digits"))
+        .collect();
+    bytes.repeat(count.parse().expect("a count"))
+}

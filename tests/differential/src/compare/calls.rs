@@ -1,0 +1,301 @@
+//! Calls of the archive beside those of the implementation from the papers, and what differed.
+
+use differential::night;
+use differential::paper::{self, Answer, Stop};
+use slash::raw;
+use std::collections::BTreeMap;
+use std::fmt::Debug;
+
+/// What a lent number holds before the call.
+const LENT: u64 = 0x7e11_7a1e_7e11_7a1e;
+
+/// What a lent byte of a listing holds before the call.
+const LENT_BYTE: u8 = 0xa5;
+
+/// Numbers before and after what is lent, which no call may change.
+const GUARDS: usize = 4;
+
+/// How many bytes after a listing are looked at where the whole rest isn't.
+const REST_SEEN: usize = 256;
+
+/// How many differences are printed.
+const MOST_PRINTED: u64 = 20;
+
+#[derive(Default)]
+struct Tally {
+    cases: u64,
+    differences: u64,
+}
+
+pub struct Harness {
+    tallies: BTreeMap<&'static str, Tally>,
+    cases: u64,
+    listing: Vec<u8>,
+}
+
+/// What a call returns for an answer, and what it stores.
+fn told(answer: Answer<u64>) -> (u64, u64) {
+    match answer {
+        Ok(number) => (0, number),
+        Err(stop) => (status(stop), LENT),
+    }
+}
+
+fn status(stop: Stop) -> u64 {
+    stop.place * 256 + stop.number
+}
+
+/// What a call returns and leaves in the number that it is lent.
+fn stored(call: impl FnOnce(*mut u64) -> u64) -> (u64, u64) {
+    let mut number = LENT;
+    let returned = call(&mut number);
+    (returned, number)
+}
+
+impl Harness {
+    pub fn new() -> Harness {
+        let listing = vec![LENT_BYTE; GUARDS + raw::LISTING_BYTES + GUARDS];
+        Harness {
+            tallies: BTreeMap::new(),
+            cases: 0,
+            listing,
+        }
+    }
+
+    pub fn cases(&self) -> u64 {
+        self.cases
+    }
+
+    pub fn differences(&self) -> u64 {
+        self.tallies.values().map(|tally| tally.differences).sum()
+    }
+
+    /// Prints how many cases each function had and how many of them differed.
+    pub fn report(&self) {
+        for (name, tally) in &self.tallies {
+            println!(
+                "{name:<20} {:>12} cases {:>8} differences",
+                tally.cases, tally.differences
+            );
+        }
+        println!(
+            "{:<20} {:>12} cases {:>8} differences",
+            "all",
+            self.cases,
+            self.differences()
+        );
+    }
+
+    /// Counts a case, and prints its input where the archive's answer isn't the papers'.
+    fn hold<T: PartialEq + Debug>(
+        &mut self,
+        name: &'static str,
+        input: impl Debug,
+        archive: T,
+        papers: T,
+    ) {
+        self.cases += 1;
+        let tally = self.tallies.entry(name).or_default();
+        tally.cases += 1;
+        if archive != papers {
+            tally.differences += 1;
+            if tally.differences <= MOST_PRINTED {
+                println!("{name} {input:?}\n    archive {archive:x?}\n    papers  {papers:x?}");
+            }
+        }
+    }
+
+    // Calls on words.
+
+    pub fn round(&mut self, form: (u64, u64), n: u64, d: u64) {
+        let (kind, k) = form;
+        let archive = stored(|word| unsafe { raw::slash_round(kind, k, n, d, word) });
+        let papers = paper::format(kind, k).and_then(|form| {
+            let size = paper::Size::Finite((n.into(), d.into()));
+            paper::write(
+                form,
+                paper::Number {
+                    negative: false,
+                    marked: false,
+                    size,
+                },
+            )
+        });
+        self.hold("slash_round", (form, n, d), archive, told(papers));
+    }
+
+    pub fn binary(&mut self, form: (u64, u64), code: u64, left: u64, right: u64) {
+        let (kind, k) = form;
+        let archive = stored(|word| unsafe { raw::slash_binary(kind, k, code, left, right, word) });
+        let papers = paper::format(kind, k).and_then(|form| paper::binary(form, code, left, right));
+        self.hold(
+            "slash_binary",
+            (form, code, left, right),
+            archive,
+            told(papers),
+        );
+    }
+
+    pub fn compare(&mut self, form: (u64, u64), left: u64, right: u64) {
+        let (kind, k) = form;
+        let archive = stored(|order| unsafe { raw::slash_compare(kind, k, left, right, order) });
+        let papers = paper::format(kind, k).and_then(|form| paper::compare(form, left, right));
+        let number = papers.map(|order| order.map_or(3, |order| (order as i8 + 1) as u64));
+        self.hold("slash_compare", (form, left, right), archive, told(number));
+    }
+
+    pub fn unary(&mut self, form: (u64, u64), code: u64, operand: u64) {
+        let (kind, k) = form;
+        let archive = stored(|word| unsafe { raw::slash_unary(kind, k, code, operand, word) });
+        let papers = paper::format(kind, k).and_then(|form| paper::unary(form, code, operand));
+        self.hold("slash_unary", (form, code, operand), archive, told(papers));
+    }
+
+    pub fn gcd(&mut self, form: (u64, u64), operand: u64) {
+        let (kind, k) = form;
+        let archive = stored(|divisor| unsafe { raw::slash_gcd(kind, k, operand, divisor) });
+        let papers = paper::format(kind, k).and_then(|form| paper::gcd(form, operand));
+        self.hold("slash_gcd", (form, operand), archive, told(papers));
+    }
+
+    pub fn convert(&mut self, form: (u64, u64), target: (u64, u64), operand: u64) {
+        let ((kind, k), (to_kind, to_k)) = (form, target);
+        let archive =
+            stored(|word| unsafe { raw::slash_convert(kind, k, to_kind, to_k, operand, word) });
+        let papers = paper::format(kind, k)
+            .and_then(|source| paper::convert(source, paper::format(to_kind, to_k)?, operand));
+        self.hold(
+            "slash_convert",
+            (form, target, operand),
+            archive,
+            told(papers),
+        );
+    }
+
+    pub fn quotients(&mut self, form: (u64, u64), operand: u64, length: usize) {
+        let (kind, k) = form;
+        let mut list = vec![LENT as u32; GUARDS + length + GUARDS];
+        let mut papers_list = list.clone();
+        let lent = &mut list[GUARDS..GUARDS + length];
+        let (start, count) = (lent.as_mut_ptr(), lent.len());
+        let archive = stored(|number| unsafe {
+            raw::slash_quotients(kind, k, operand, start, count, number)
+        });
+        let lent = &mut papers_list[GUARDS..GUARDS + length];
+        let papers = paper::format(kind, k).and_then(|form| paper::quotients(form, operand, lent));
+        let input = (form, operand, length);
+        self.hold(
+            "slash_quotients",
+            input,
+            (archive, list),
+            (told(papers), papers_list),
+        );
+    }
+
+    // Calls on vectors.
+
+    /// Holds a vector form to the papers: what it returns and what it leaves in a lent result.
+    fn hold_each(
+        &mut self,
+        name: &'static str,
+        input: impl Debug,
+        length: usize,
+        archive: impl FnOnce(*mut u64, usize) -> u64,
+        papers: impl FnOnce(&mut [u64]) -> Answer<()>,
+    ) {
+        let mut out: Vec<u64> = (0..(GUARDS + length + GUARDS) as u64)
+            .map(|at| LENT ^ at)
+            .collect();
+        let mut papers_out = out.clone();
+        let lent = &mut out[GUARDS..GUARDS + length];
+        let returned = archive(lent.as_mut_ptr(), lent.len());
+        let expected = papers(&mut papers_out[GUARDS..GUARDS + length]).map_or_else(status, |()| 0);
+        self.hold(name, input, (returned, out), (expected, papers_out));
+    }
+
+    pub fn binary_each(
+        &mut self,
+        form: (u64, u64),
+        code: u64,
+        left: &[u64],
+        right: &[u64],
+        length: usize,
+    ) {
+        let (kind, k) = form;
+        let (l, r) = (left.as_ptr(), right.as_ptr());
+        self.hold_each(
+            "slash_binary_each",
+            (form, code, left, right, length),
+            length,
+            |out, count| unsafe {
+                raw::slash_binary_each(kind, k, code, l, left.len(), r, right.len(), out, count)
+            },
+            |out| paper::binary_each(form, code, left, right, out),
+        );
+    }
+
+    pub fn unary_each(&mut self, form: (u64, u64), code: u64, operand: &[u64], length: usize) {
+        let (kind, k) = form;
+        self.hold_each(
+            "slash_unary_each",
+            (form, code, operand, length),
+            length,
+            |out, count| unsafe {
+                raw::slash_unary_each(kind, k, code, operand.as_ptr(), operand.len(), out, count)
+            },
+            |out| paper::unary_each(form, code, operand, out),
+        );
+    }
+
+    pub fn convert_each(
+        &mut self,
+        form: (u64, u64),
+        target: (u64, u64),
+        operand: &[u64],
+        length: usize,
+    ) {
+        let ((kind, k), (to_kind, to_k)) = (form, target);
+        let (words, count) = (operand.as_ptr(), operand.len());
+        self.hold_each(
+            "slash_convert_each",
+            (form, target, operand, length),
+            length,
+            |out, out_count| unsafe {
+                raw::slash_convert_each(kind, k, to_kind, to_k, words, count, out, out_count)
+            },
+            |out| paper::convert_each(form, target, operand, out),
+        );
+    }
+
+    // Calls on recordings.
+
+    /// Holds the listing and what lies around it, the whole rest of what is lent if asked.
+    pub fn night(&mut self, recording: &[u8], whole_rest: bool) {
+        let mut listing = std::mem::take(&mut self.listing);
+        let returned = unsafe {
+            let start = listing[GUARDS..].as_mut_ptr();
+            raw::slash_night(recording.as_ptr(), recording.len(), start)
+        };
+        let papers = night::listing(recording);
+        let rest = GUARDS + papers.len();
+        let seen = if whole_rest {
+            listing.len()
+        } else {
+            listing.len().min(rest + REST_SEEN)
+        };
+        let around = [&listing[..GUARDS], &listing[rest..seen]];
+        let kept = around
+            .iter()
+            .all(|bytes| bytes.iter().all(|&byte| byte == LENT_BYTE));
+        let same = returned == papers.len() as u64 && listing[GUARDS..rest] == papers;
+        let input = String::from_utf8_lossy(&recording[..recording.len().min(500)]).into_owned();
+        let shown =
+            |bytes: &[u8]| String::from_utf8_lossy(&bytes[..bytes.len().min(500)]).into_owned();
+        let archive = (returned, same, kept, shown(&listing[GUARDS..rest]));
+        let expected = (papers.len() as u64, true, true, shown(&papers));
+        self.hold("slash_night", input, archive, expected);
+        let written = if kept && same { rest } else { listing.len() };
+        listing[..written].fill(LENT_BYTE);
+        self.listing = listing;
+    }
+}

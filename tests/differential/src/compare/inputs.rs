@@ -1,0 +1,300 @@
+//! Random formats, codes, words, vectors and recordings, the same for the same seed.
+
+use differential::paper::{self, all_formats, Format, Kind};
+
+/// A source of random numbers (xorshift) and of what is made of them.
+pub struct Source {
+    state: u64,
+    formats: Vec<Format>,
+}
+
+/// Numbers of kinds and k that no format has, and codes that no operation has; some are good ones again
+/// when bits are dropped.
+const STRANGE: [u64; 14] = [
+    0,
+    1,
+    2,
+    3,
+    5,
+    8,
+    32,
+    33,
+    64,
+    257,
+    258,
+    (1 << 32) + 1,
+    (1 << 63) + 2,
+    u64::MAX,
+];
+
+/// Fields of a recording that are no tick marks or the last ones.
+const STRANGE_FIELDS: [&str; 16] = [
+    "",
+    "0",
+    "00",
+    "01",
+    "+1",
+    "-1",
+    "1 ",
+    "4294967294",
+    "4294967295",
+    "4294967296",
+    "4294967297",
+    "4294967300",
+    "5000000000",
+    "10000000000",
+    "18446744073709551617",
+    "0\t0",
+];
+
+/// Puts another text in the place of the field that is there.
+fn replace_field(recording: &mut Vec<u8>, place: usize, text: &[u8]) {
+    let parts = |&byte: &u8| byte == b'\t' || byte == b'\n';
+    let start = recording[..place]
+        .iter()
+        .rposition(parts)
+        .map_or(0, |at| at + 1);
+    let end = recording[place..]
+        .iter()
+        .position(parts)
+        .map_or(recording.len(), |at| place + at);
+    recording.splice(start..end, text.iter().copied());
+}
+
+impl Source {
+    pub fn new(seed: u64) -> Source {
+        let state = seed.wrapping_mul(0x9e37_79b9_7f4a_7c15) | 1;
+        Source {
+            state,
+            formats: all_formats().collect(),
+        }
+    }
+
+    /// 64 random bits.
+    fn bits(&mut self) -> u64 {
+        self.state ^= self.state << 13;
+        self.state ^= self.state >> 7;
+        self.state ^= self.state << 17;
+        self.state.wrapping_mul(0x2545_f491_4f6c_dd1d)
+    }
+
+    /// A random number below the end.
+    pub fn below(&mut self, end: u64) -> u64 {
+        ((self.bits() as u128 * end as u128) >> 64) as u64
+    }
+
+    fn one_of<T: Copy>(&mut self, things: &[T]) -> T {
+        things[self.below(things.len() as u64) as usize]
+    }
+
+    /// A number of a random bit count.
+    pub fn part(&mut self) -> u64 {
+        let count = self.below(65) as u32;
+        self.bits().checked_shr(64 - count).unwrap_or(0)
+    }
+
+    /// The kind and k of a format, one time in 64 of none.
+    pub fn format(&mut self) -> (u64, u64) {
+        if self.below(64) == 0 {
+            return (self.one_of(&STRANGE), self.one_of(&STRANGE));
+        }
+        let at = self.below(self.formats.len() as u64) as usize;
+        (self.formats[at].kind_number(), self.formats[at].k.into())
+    }
+
+    /// A code from 1 to the last, one time in 64 some other number.
+    pub fn code(&mut self, last: u64) -> u64 {
+        if self.below(64) == 0 {
+            return self.one_of(&STRANGE);
+        }
+        1 + self.below(last)
+    }
+
+    // Words.
+
+    /// A word of the format of this kind and k: a good one, or now and then one that stops.
+    pub fn word(&mut self, (kind, k): (u64, u64)) -> u64 {
+        let Ok(form) = paper::format(kind, k) else {
+            return self.bits();
+        };
+        if self.below(64) == 0 {
+            return self.bits() >> self.below(64);
+        }
+        self.word_of(form)
+    }
+
+    /// A word that mostly is good.
+    fn word_of(&mut self, form: Format) -> u64 {
+        let random = self.bits() >> (64 - form.width());
+        match self.below(8) {
+            0..=2 => random,
+            3 => self.special(form, random),
+            _ => {
+                let pair = self.pair(form);
+                paper::pair_word(form, self.below(2) == 1, pair, self.below(2) == 1)
+            }
+        }
+    }
+
+    /// A zero, an infinity or a not-a-number, mostly with a message, from a random word.
+    fn special(&mut self, form: Format, random: u64) -> u64 {
+        let low = (1u64 << form.k) - 1;
+        match form.kind {
+            Kind::Fixed => match self.below(3) {
+                0 => random & !low,
+                1 => random & !(low << (form.k + 1)),
+                _ => random & (1 << (2 * form.k + 1) | 1 << form.k),
+            },
+            Kind::Floating => {
+                let f = random & (low >> 1);
+                let top = (1u64 << (form.width() - 2)) - (1 << (form.k - 1));
+                let few = f >> self.below(form.k.into());
+                self.one_of(&[random | top, random & !f & !top | few, top | few])
+            }
+        }
+    }
+
+    /// A held pair, neither part 0, whose parts have random bit counts, often the largest.
+    fn pair(&mut self, form: Format) -> paper::Pair {
+        let k = u64::from(form.k);
+        let (numerator, denominator) = match (form.kind, self.below(2)) {
+            (Kind::Fixed, 0) => (k, k),
+            (Kind::Fixed, _) => (1 + self.below(k), 1 + self.below(k)),
+            (Kind::Floating, wide) => {
+                let numerator = 1 + self.below(k - 1);
+                let left = k - numerator;
+                (
+                    numerator,
+                    if wide == 0 {
+                        left
+                    } else {
+                        1 + self.below(left)
+                    },
+                )
+            }
+        };
+        let part = |bits: u64, count: u64| u128::from((bits >> (64 - count)).max(1));
+        (part(self.bits(), numerator), part(self.bits(), denominator))
+    }
+
+    /// Two words, one time in four the second made from the first.
+    pub fn operands(&mut self, form: (u64, u64)) -> (u64, u64) {
+        let left = self.word(form);
+        let right = match self.below(16) {
+            0 => left,
+            1 => self.changed(form, 1, left),
+            2 => self.changed(form, 3, left),
+            3 => left ^ 1 << self.below(64),
+            _ => self.word(form),
+        };
+        (left, right)
+    }
+
+    /// The word with its sign turned or its value's reciprocal, or another where that stops.
+    fn changed(&mut self, form: (u64, u64), code: u64, word: u64) -> u64 {
+        let changed = paper::format(form.0, form.1).and_then(|form| paper::unary(form, code, word));
+        changed.unwrap_or_else(|_| self.word(form))
+    }
+
+    // Vectors.
+
+    /// The length of a vector: mostly small, now and then some hundreds.
+    pub fn length(&mut self) -> usize {
+        let end = if self.below(64) == 0 { 400 } else { 20 };
+        self.below(end) as usize
+    }
+
+    /// The length of a vector beside it, one time in 16 another.
+    pub fn other_length(&mut self, length: usize) -> usize {
+        match self.below(48) {
+            0 => length + 1,
+            1 => length.saturating_sub(1),
+            2 => self.length(),
+            _ => length,
+        }
+    }
+
+    /// A vector, half the time of good words only, else with some that stop.
+    pub fn vector(&mut self, (kind, k): (u64, u64), length: usize) -> Vec<u64> {
+        let Ok(form) = paper::format(kind, k) else {
+            return (0..length).map(|_| self.bits()).collect();
+        };
+        let mut words: Vec<u64> = (0..length).map(|_| self.good_word(form)).collect();
+        for _ in 0..self.below(4).saturating_sub(1) {
+            if length > 0 {
+                let place = self.below(length as u64) as usize;
+                words[place] = self.bits() >> self.below(64);
+            }
+        }
+        words
+    }
+
+    fn good_word(&mut self, form: Format) -> u64 {
+        loop {
+            let word = self.word_of(form);
+            if paper::read(form, word).is_ok() {
+                return word;
+            }
+        }
+    }
+
+    // Recordings.
+
+    /// A good recording of so many lines.
+    pub fn recording(&mut self, lines: usize) -> Vec<u8> {
+        let mut onset = self.bits() as u32;
+        let mut recording = Vec::new();
+        for _ in 0..lines {
+            let (inward, whole) = self.breath();
+            let (peak, next) = (onset.wrapping_add(inward), onset.wrapping_add(whole));
+            recording.extend_from_slice(format!("{onset}\t{peak}\t{next}\n").as_bytes());
+            onset = if self.below(8) == 0 {
+                self.part() as u32
+            } else {
+                next
+            };
+        }
+        recording
+    }
+
+    /// The ticks of breathing in and of the whole breath: like a sleeper's, or any.
+    fn breath(&mut self) -> (u32, u32) {
+        let (inward, whole) = match self.below(4) {
+            0 => (self.part(), self.part()),
+            1 => {
+                let whole = self.part();
+                (self.below(whole | 1), whole)
+            }
+            2 => {
+                // At a half of a tenth of a percent, or next to it.
+                let times = 1 + self.below(2_000_000);
+                let off = self.below(3);
+                (times * self.below(2001) + off, times * 2000 + 1)
+            }
+            _ => {
+                let whole = 200 + self.below(600);
+                (whole * (30 + self.below(20)) / 100, whole)
+            }
+        };
+        (inward as u32, whole as u32)
+    }
+
+    /// Changes, takes out or puts in a byte, cuts the recording off, or puts a strange field in.
+    pub fn damage(&mut self, recording: &mut Vec<u8>) {
+        let place = self.below(recording.len() as u64 + 1) as usize;
+        if self.below(3) == 0 {
+            let strange = self.one_of(&STRANGE_FIELDS);
+            return replace_field(recording, place, strange.as_bytes());
+        }
+        let any = self.bits() as u8;
+        let byte = self.one_of(&[b'\t', b'\n', b'0', b'1', b'4', b'9', b' ', b'-', b'\r', any]);
+        match self.below(8) {
+            0..=2 if place < recording.len() => recording[place] = byte,
+            3 | 4 if place < recording.len() => {
+                recording.remove(place);
+            }
+            5 => recording.truncate(place),
+            _ => recording.insert(place, byte),
+        }
+    }
+}

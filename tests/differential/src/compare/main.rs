@@ -1,0 +1,152 @@
+//! Holds the archive to the implementation from the papers: compare CASES [SEED].
+//!
+//! Every word of the smallest formats first, then random calls until so many cases are done. A case is
+//! one call: what it returns and all that was lent to it must be what the papers say.
+
+mod calls;
+mod inputs;
+
+use calls::Harness;
+use differential::paper::{all_formats, Format, Kind};
+use inputs::Source;
+use std::process::ExitCode;
+
+fn main() -> ExitCode {
+    let numbers: Vec<u64> = std::env::args()
+        .skip(1)
+        .map(|text| text.parse().expect("usage: compare CASES [SEED]"))
+        .collect();
+    let cases = numbers.first().copied().unwrap_or(1_000_000);
+    let mut source = Source::new(numbers.get(1).copied().unwrap_or(1));
+    let mut harness = Harness::new();
+    every_pair_of_words(&mut harness);
+    every_word(&mut harness);
+    every_small_ratio(&mut harness);
+    long_recordings(&mut harness, &mut source);
+    while harness.cases() < cases {
+        random_call(&mut harness, &mut source);
+    }
+    harness.report();
+    if harness.differences() == 0 {
+        ExitCode::SUCCESS
+    } else {
+        ExitCode::FAILURE
+    }
+}
+
+fn numbers_of(form: Format) -> (u64, u64) {
+    (form.kind_number(), form.k.into())
+}
+
+/// All pairs of words of the smallest formats, with every code and compared.
+fn every_pair_of_words(harness: &mut Harness) {
+    let smallest =
+        all_formats().filter(|form| form.k <= if form.kind == Kind::Fixed { 3 } else { 4 });
+    for form in smallest {
+        let words = 1 << form.width();
+        for (left, right) in (0..words).flat_map(|left| (0..words).map(move |right| (left, right)))
+        {
+            for code in 1..=4 {
+                harness.binary(numbers_of(form), code, left, right);
+            }
+            harness.compare(numbers_of(form), left, right);
+        }
+    }
+}
+
+/// All words of the small formats: every unary code, the divisor, the quotients, all conversions.
+fn every_word(harness: &mut Harness) {
+    for form in all_formats().filter(|form| form.width() <= 12) {
+        for word in 0..1 << form.width() {
+            for code in 1..=7 {
+                harness.unary(numbers_of(form), code, word);
+            }
+            harness.gcd(numbers_of(form), word);
+            for length in 0..=2 * form.k as usize {
+                harness.quotients(numbers_of(form), word, length);
+            }
+            for target in all_formats().filter(|_| form.width() <= 10) {
+                harness.convert(numbers_of(form), numbers_of(target), word);
+            }
+        }
+    }
+}
+
+/// Small ratios in every format, those over 0 included.
+fn every_small_ratio(harness: &mut Harness) {
+    for form in all_formats() {
+        for (n, d) in (0..48).flat_map(|n| (0..48).map(move |d| (n, d))) {
+            harness.round(numbers_of(form), n, d);
+        }
+    }
+}
+
+/// Recordings of about as many lines as are allowed, good and damaged.
+fn long_recordings(harness: &mut Harness, source: &mut Source) {
+    for lines in 65533..=65539 {
+        for damages in 0..2 {
+            let mut recording = source.recording(lines);
+            (0..damages).for_each(|_| source.damage(&mut recording));
+            harness.night(&recording, true);
+        }
+    }
+    for line in [
+        "4294967295\t4294967294\t4294967294\n",
+        "0\t1\t2\n",
+        "1\t0\t0\n",
+        "0\t0\t0\n",
+    ] {
+        for lines in [65535, 65536, 65537] {
+            harness.night(line.repeat(lines).as_bytes(), true);
+        }
+    }
+}
+
+fn random_call(harness: &mut Harness, source: &mut Source) {
+    let form = source.format();
+    match source.below(20) {
+        0..=5 => {
+            let (left, right) = source.operands(form);
+            harness.binary(form, source.code(4), left, right);
+        }
+        6 | 7 => {
+            let (left, right) = source.operands(form);
+            harness.compare(form, left, right);
+        }
+        8..=10 => harness.unary(form, source.code(7), source.word(form)),
+        11 | 12 => harness.convert(form, source.format(), source.word(form)),
+        13 | 14 => harness.round(form, source.part(), source.part()),
+        15 => harness.gcd(form, source.word(form)),
+        16 => {
+            let length = if source.below(2) == 0 {
+                64
+            } else {
+                source.below(40) as usize
+            };
+            harness.quotients(form, source.word(form), length);
+        }
+        17 | 18 => random_vectors(harness, source, form),
+        _ => {
+            let lines = source.below(9) as usize;
+            let mut recording = source.recording(lines);
+            (0..source.below(3)).for_each(|_| source.damage(&mut recording));
+            let whole_rest = source.below(1024) == 0;
+            harness.night(&recording, whole_rest);
+        }
+    }
+}
+
+fn random_vectors(harness: &mut Harness, source: &mut Source, form: (u64, u64)) {
+    let length = source.length();
+    let other = source.other_length(length);
+    let out = source.other_length(length);
+    let left = source.vector(form, length);
+    match source.below(3) {
+        0 => {
+            let right = source.vector(form, other);
+            harness.binary_each(form, source.code(4), &left, &right, out);
+        }
+        1 => harness.unary_each(form, source.code(7), &left, out),
+        _ => harness.convert_each(form, source.format(), &left, out),
+    }
+}

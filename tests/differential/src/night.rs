@@ -1,0 +1,96 @@
+//! The listing of a night's recording, from documents 00 and 01 alone.
+
+use crate::paper;
+
+const MOST_LINES: usize = 65536;
+const MOST_BYTES: usize = 32;
+
+/// The bytes that `night` prints for a recording.
+pub fn listing(recording: &[u8]) -> Vec<u8> {
+    let mut listed = String::new();
+    match list(recording, &mut listed) {
+        Ok((inward, whole)) => listed += &row("all", inward, whole),
+        Err((number, line)) => listed += &format!("refused\t{number}\t{line}\n"),
+    }
+    listed.into_bytes()
+}
+
+/// Lists the breaths and gives the sums of those that aren't void, or a stop's number and line.
+fn list(recording: &[u8], listed: &mut String) -> Result<(u64, u64), (u64, usize)> {
+    let mut sums = (0, 0);
+    if recording.is_empty() {
+        return Err((12, 1));
+    }
+    for (index, line) in recording.split_inclusive(|&byte| byte == b'\n').enumerate() {
+        let number = index + 1;
+        if number > MOST_LINES {
+            return Err((8, number));
+        }
+        let (inward, whole) = durations(line).map_err(|stop| (stop, number))?;
+        *listed += &row(&number.to_string(), inward, whole);
+        if !is_void(inward, whole) {
+            sums = (sums.0 + inward, sums.1 + whole);
+        }
+    }
+    Ok(sums)
+}
+
+/// The breathing in and the whole breath of a line, or a stop's number.
+fn durations(line: &[u8]) -> Result<(u64, u64), u64> {
+    let text = line.strip_suffix(b"\n").ok_or(9u64)?;
+    if text.len() > MOST_BYTES {
+        return Err(9);
+    }
+    let fields: Vec<&[u8]> = text.split(|&byte| byte == b'\t').collect();
+    let [onset, peak, next] = fields[..] else {
+        return Err(10);
+    };
+    let (onset, peak, next) = (tick_mark(onset)?, tick_mark(peak)?, tick_mark(next)?);
+    Ok((
+        peak.wrapping_sub(onset) as u64,
+        next.wrapping_sub(onset) as u64,
+    ))
+}
+
+/// The tick mark that the bytes are, if they are just what it is printed as.
+fn tick_mark(bytes: &[u8]) -> Result<u32, u64> {
+    let text = std::str::from_utf8(bytes).map_err(|_| 11u64)?;
+    let mark: u32 = text.parse().map_err(|_| 11u64)?;
+    if mark.to_string() == text {
+        Ok(mark)
+    } else {
+        Err(11)
+    }
+}
+
+fn is_void(inward: u64, whole: u64) -> bool {
+    whole == 0 || inward > whole
+}
+
+/// A listed line.
+fn row(name: &str, inward: u64, whole: u64) -> String {
+    if is_void(inward, whole) {
+        return format!("{name}\t00000000\t-\t-\n");
+    }
+    let stored = paper::format(1, 15).expect("a format");
+    let size = paper::Size::Finite((inward as u128, whole as u128));
+    let number = paper::Number {
+        negative: false,
+        marked: false,
+        size,
+    };
+    let word = paper::write(stored, number).expect("a word");
+    let Ok(paper::Number {
+        size: paper::Size::Finite((n, d)),
+        ..
+    }) = paper::read(stored, word)
+    else {
+        unreachable!("a ratio of at most 1 is finite")
+    };
+    let tenths = 1000 * n / d + u128::from(2 * (1000 * n % d) >= d);
+    format!(
+        "{name}\t{word:08x}\t{n}/{d}\t{}.{}\n",
+        tenths / 10,
+        tenths % 10
+    )
+}

@@ -1,0 +1,221 @@
+//! Slash arithmetic for breath ratios: safe functions over the proved archive.
+//!
+//! A word is a `u64` that a [`Format`] tells how to read. A refused call returns a [`Stop`] and changes
+//! nothing that was lent to it.
+
+use std::cmp::Ordering;
+use std::fmt;
+
+pub mod raw;
+
+/// The kind and the k of a word format; one that doesn't exist gets stop 1.
+#[derive(Clone, Copy, Debug, PartialEq, Eq)]
+pub struct Format {
+    pub kind: u64,
+    pub k: u64,
+}
+
+impl Format {
+    /// The fixed format with parts of k bits, k from 2 to 31.
+    pub const fn fixed(k: u64) -> Format {
+        Format { kind: 1, k }
+    }
+
+    /// The floating format whose parts share k bits, k from 2 to 32.
+    pub const fn floating(k: u64) -> Format {
+        Format { kind: 2, k }
+    }
+}
+
+/// A refused call: the stop's number, from 1 to 7, and the index in a vector, else 0.
+#[derive(Clone, Copy, Debug, PartialEq, Eq)]
+pub struct Stop {
+    pub number: u8,
+    pub place: u64,
+}
+
+impl Stop {
+    fn check(status: u64) -> Result<(), Stop> {
+        match status {
+            0 => Ok(()),
+            _ => Err(Stop {
+                number: status as u8,
+                place: status >> 8,
+            }),
+        }
+    }
+}
+
+impl fmt::Display for Stop {
+    fn fmt(&self, f: &mut fmt::Formatter) -> fmt::Result {
+        let meaning = match self.number {
+            1 => "unknown kind or k",
+            2 => "unknown operation code",
+            3 => "vectors of unequal length",
+            4 => "word with bits above its width",
+            5 => "undefined slash position",
+            6 => "denominator 0 given to rounding",
+            7 => "quotient list shorter than the quotients",
+            _ => "unknown stop",
+        };
+        write!(f, "stop {} at {}: {meaning}", self.number, self.place)
+    }
+}
+
+impl std::error::Error for Stop {}
+
+/// The operations on two words, by their codes.
+#[derive(Clone, Copy, Debug, PartialEq, Eq)]
+pub enum Binary {
+    Add = 1,
+    Subtract = 2,
+    Multiply = 3,
+    Divide = 4,
+}
+
+/// The operations on one word, by their codes.
+#[derive(Clone, Copy, Debug, PartialEq, Eq)]
+pub enum Unary {
+    Negate = 1,
+    Absolute = 2,
+    Reciprocal = 3,
+    Floor = 4,
+    Ceiling = 5,
+    ModOne = 6,
+    Normalise = 7,
+}
+
+/// The number that a call stores where it isn't refused.
+fn stored(call: impl FnOnce(*mut u64) -> u64) -> Result<u64, Stop> {
+    let mut number = 0;
+    Stop::check(call(&mut number))?;
+    Ok(number)
+}
+
+/// The word of n/d rounded into the format; stops 1, then 6.
+pub fn round(form: Format, n: u64, d: u64) -> Result<u64, Stop> {
+    // SAFETY: in every such block the pointers come from live, aligned Rust values, with their lengths.
+    stored(|word| unsafe { raw::slash_round(form.kind, form.k, n, d, word) })
+}
+
+/// The word that an operation on two words gives; stops 1, then 4 and 5.
+pub fn binary(form: Format, operation: Binary, left: u64, right: u64) -> Result<u64, Stop> {
+    let code = operation as u64;
+    stored(|word| unsafe { raw::slash_binary(form.kind, form.k, code, left, right, word) })
+}
+
+/// The word that an operation on one word gives; stops 1, then 4 and 5.
+pub fn unary(form: Format, operation: Unary, operand: u64) -> Result<u64, Stop> {
+    let code = operation as u64;
+    stored(|word| unsafe { raw::slash_unary(form.kind, form.k, code, operand, word) })
+}
+
+/// How two words' values compare; none with a not-a-number. Stops 1, then 4 and 5.
+pub fn compare(form: Format, left: u64, right: u64) -> Result<Option<Ordering>, Stop> {
+    let order =
+        stored(|order| unsafe { raw::slash_compare(form.kind, form.k, left, right, order) })?;
+    Ok(match order {
+        0 => Some(Ordering::Less),
+        1 => Some(Ordering::Equal),
+        2 => Some(Ordering::Greater),
+        _ => None,
+    })
+}
+
+/// The greatest common divisor of a nonzero fraction's parts, else 0; stops 1, then 4 and 5.
+pub fn gcd(form: Format, operand: u64) -> Result<u64, Stop> {
+    stored(|divisor| unsafe { raw::slash_gcd(form.kind, form.k, operand, divisor) })
+}
+
+/// The word of the target format for a word of the source format; stops 1, then 4 and 5.
+pub fn convert(source: Format, target: Format, operand: u64) -> Result<u64, Stop> {
+    stored(|word| unsafe {
+        raw::slash_convert(source.kind, source.k, target.kind, target.k, operand, word)
+    })
+}
+
+/// Puts a word's partial quotients into the list and counts them; stops 1, 4 and 5, then 7.
+///
+/// There are at most 2k. What the list has beyond them is left as it was.
+pub fn quotients(form: Format, operand: u64, list: &mut [u32]) -> Result<usize, Stop> {
+    let (start, length) = (list.as_mut_ptr(), list.len());
+    let count = stored(|count| unsafe {
+        raw::slash_quotients(form.kind, form.k, operand, start, length, count)
+    })?;
+    Ok(count as usize)
+}
+
+/// [`binary`] at each place of equally long vectors; stops 1, 3, then 4 and 5 with their place.
+pub fn binary_each(
+    form: Format,
+    operation: Binary,
+    left: &[u64],
+    right: &[u64],
+    out: &mut [u64],
+) -> Result<(), Stop> {
+    Stop::check(unsafe {
+        raw::slash_binary_each(
+            form.kind,
+            form.k,
+            operation as u64,
+            left.as_ptr(),
+            left.len(),
+            right.as_ptr(),
+            right.len(),
+            out.as_mut_ptr(),
+            out.len(),
+        )
+    })
+}
+
+/// [`unary`] at each place of equally long vectors; stops 1, 3, then 4 and 5 with their place.
+pub fn unary_each(
+    form: Format,
+    operation: Unary,
+    operand: &[u64],
+    out: &mut [u64],
+) -> Result<(), Stop> {
+    Stop::check(unsafe {
+        raw::slash_unary_each(
+            form.kind,
+            form.k,
+            operation as u64,
+            operand.as_ptr(),
+            operand.len(),
+            out.as_mut_ptr(),
+            out.len(),
+        )
+    })
+}
+
+/// [`convert`] at each place of equally long vectors; stops 1, 3, then 4 and 5 with their place.
+pub fn convert_each(
+    source: Format,
+    target: Format,
+    operand: &[u64],
+    out: &mut [u64],
+) -> Result<(), Stop> {
+    Stop::check(unsafe {
+        raw::slash_convert_each(
+            source.kind,
+            source.k,
+            target.kind,
+            target.k,
+            operand.as_ptr(),
+            operand.len(),
+            out.as_mut_ptr(),
+            out.len(),
+        )
+    })
+}
+
+/// The listing of a night's recording, as the program `night` prints it.
+///
+/// A refused recording's listing ends in its `refused` line, with a stop from 8 to 12.
+pub fn night(recording: &[u8]) -> Vec<u8> {
+    let mut listing = vec![0; raw::LISTING_BYTES];
+    let length =
+        unsafe { raw::slash_night(recording.as_ptr(), recording.len(), listing.as_mut_ptr()) };
+    listing.truncate(length as usize);
+    listing
+}

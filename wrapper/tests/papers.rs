@@ -1,0 +1,131 @@
+//! The papers' edges, through the safe functions.
+
+use slash::{Binary, Format, Stop, Unary};
+use std::cmp::Ordering;
+
+const FIXED_3: Format = Format::fixed(3);
+
+#[test]
+fn rounding_gives_the_marked_edges() {
+    let fixed = |k: u64, n: u64, d: u64, r: u64, s: u64, mark: u64| {
+        let word = (r << (k + 1)) + (mark << k) + s;
+        assert_eq!(
+            slash::round(Format::fixed(k), n, d),
+            Ok(word),
+            "{n}/{d} at fixed k = {k}"
+        );
+    };
+    fixed(9, 277, 642, 85, 197, 1);
+    fixed(2, 5, 2, 2, 1, 1);
+    fixed(3, 1, 10, 0, 1, 1);
+    fixed(3, 15, 2, 7, 1, 1);
+    fixed(3, 8, 1, 1, 0, 1);
+    fixed(3, 7, 1, 7, 1, 0);
+    fixed(2, 6, 23, 1, 3, 1);
+    fixed(15, 277, 642, 277, 642, 0);
+    assert_eq!(
+        slash::round(Format::floating(26), 355, 113),
+        Ok(0x0c00_58f1)
+    );
+}
+
+#[test]
+fn operations_give_the_papers_words() {
+    assert_eq!(slash::binary(FIXED_3, Binary::Add, 0x13, 0x15), Ok(0x1a));
+    // Floor, ceiling and mod 1 of -2/3: -1, +0 and 1/3.
+    assert_eq!(slash::unary(FIXED_3, Unary::Floor, 0xa3), Ok(0x91));
+    assert_eq!(slash::unary(FIXED_3, Unary::Ceiling, 0xa3), Ok(0x01));
+    assert_eq!(slash::unary(FIXED_3, Unary::ModOne, 0xa3), Ok(0x13));
+    assert_eq!(
+        slash::compare(FIXED_3, 0x01, 0x81),
+        Ok(Some(Ordering::Equal))
+    );
+    assert_eq!(
+        slash::compare(FIXED_3, 0x13, 0x15),
+        Ok(Some(Ordering::Greater))
+    );
+    assert_eq!(
+        slash::compare(FIXED_3, 0x15, 0x13),
+        Ok(Some(Ordering::Less))
+    );
+    assert_eq!(slash::compare(FIXED_3, 0x00, 0x13), Ok(None));
+    assert_eq!(slash::gcd(FIXED_3, 0x22), Ok(2));
+    // 6/23 to fixed k = 2 at once.
+    assert_eq!(
+        slash::convert(Format::fixed(5), Format::fixed(2), 407),
+        Ok(0xf)
+    );
+}
+
+#[test]
+fn a_list_keeps_what_lies_beyond_the_quotients() {
+    let mut list = [9; 5];
+    // 1/3 is 0 and 1 over 3.
+    assert_eq!(slash::quotients(FIXED_3, 0x13, &mut list), Ok(2));
+    assert_eq!(list, [0, 3, 9, 9, 9]);
+    assert_eq!(
+        slash::quotients(FIXED_3, 0x13, &mut list[..1]),
+        Err(Stop {
+            number: 7,
+            place: 0
+        })
+    );
+    assert_eq!(list, [0, 3, 9, 9, 9]);
+    assert_eq!(slash::quotients(FIXED_3, 0x10, &mut []), Ok(0));
+}
+
+#[test]
+fn stops_are_the_papers() {
+    let stop = |number, place| Stop { number, place };
+    assert_eq!(slash::round(Format::fixed(1), 1, 1), Err(stop(1, 0)));
+    assert_eq!(slash::round(Format::fixed(32), 1, 0), Err(stop(1, 0)));
+    assert_eq!(slash::round(Format::floating(32), 1, 0), Err(stop(6, 0)));
+    assert_eq!(slash::unary(FIXED_3, Unary::Negate, 0x100), Err(stop(4, 0)));
+    assert_eq!(slash::gcd(Format::floating(3), 0x08), Err(stop(5, 0)));
+}
+
+#[test]
+fn vectors_store_all_or_nothing() {
+    let mut out = [7, 8];
+    let add = |left: &[u64], right: &[u64], out: &mut [u64]| {
+        slash::binary_each(FIXED_3, Binary::Add, left, right, out)
+    };
+    assert_eq!(
+        add(&[0x13, 0x100], &[0x15, 1], &mut out),
+        Err(Stop {
+            number: 4,
+            place: 1
+        })
+    );
+    assert_eq!(
+        add(&[0x13], &[0x15], &mut out),
+        Err(Stop {
+            number: 3,
+            place: 0
+        })
+    );
+    assert_eq!(out, [7, 8]);
+    assert_eq!(add(&[0x13, 1], &[0x15, 1], &mut out), Ok(()));
+    assert_eq!(out, [0x1a, 1]);
+    assert_eq!(
+        slash::unary_each(FIXED_3, Unary::Floor, &[0xa3, 0x10], &mut out),
+        Ok(())
+    );
+    assert_eq!(out, [0x91, 0x10]);
+    let (source, target) = (Format::fixed(5), Format::fixed(2));
+    assert_eq!(
+        slash::convert_each(source, target, &[407, 1], &mut out),
+        Ok(())
+    );
+    assert_eq!(out, [0xf, 1]);
+    assert_eq!(add(&[], &[], &mut []), Ok(()));
+}
+
+#[test]
+fn a_night_is_listed_as_the_paper_prints_it() {
+    let listing = slash::night(b"0\t277\t642\n4294967290\t10\t34\n100\t100\t100\n");
+    let expected = "1\t01150282\t277/642\t43.1\n2\t00020005\t2/5\t40.0\n3\t00000000\t-\t-\n\
+                    all\t012502aa\t293/682\t43.0\n";
+    assert_eq!(String::from_utf8(listing).as_deref(), Ok(expected));
+    assert_eq!(slash::night(b""), b"refused\t12\t1\n");
+}
