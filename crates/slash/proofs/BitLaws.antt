@@ -9,6 +9,7 @@ use native.Mathlib.Nat.{add-zero, zero-add, one-mul, mod-eq-of-lt, mod-lt, le-an
 use lib.Dec.{leb, eqb}
 use lib.Arith.{digits-lt, digits-div, digits-mod}
 use lib.Pow.{pow-pos, pow-mono, pow-lt, pow-add, shr-shr}
+use lib.Bits.{bitAnd, and-mask}
 use lib.Count.{leadingZeros, leading-length}
 use borrow.Author.Tests.{leb-true, leb-false, ne-eqb}
 use Rattle.slash.specs.Bits.{leastFrom, leastPower, bitCount, bits, bit, bitOf, fields}
@@ -150,9 +151,9 @@ pub bit-false : (b : Bool) → b ≡ false → 0 ≡ bitOf b
 unfolding bitOf
 bit-false b h = rw h refl
 
-pub field-is : (from count w p : ℕ) → p ≡ 2 ^ count → w / 2 ^ from % p ≡ bits from count w
+pub field-is : (from count w p : ℕ) → p ≡ 2 ^ count → bitAnd (w / 2 ^ from) (p - 1) ≡ bits from count w
 unfolding bits
-field-is from count w p e = rw e refl
+field-is from count w p e = rw e (and-mask (w / 2 ^ from) count)
 
 pub flag-is : (from w r : ℕ) → r ≡ bits from 1 w → eqb r 1 ≡ bit from w
 unfolding bit

@@ -3,7 +3,7 @@ use mathlib.Core.Path.{_≡_, refl, sym, ap, _∙_}
 use mathlib.Core.Bool.{Bool, true, false, _&&_}
 use Prim.Native.Nat.{ℕ, _+_, _-_, _*_, _/_, _%_, _^_, _≤_, _<_}
 use native.Mathlib.Omega.{arith}
-use native.Mathlib.Nat.{mod-lt, le-div-iff-mul-le, div-lt-iff-lt-mul}
+use native.Mathlib.Nat.{mod-lt, div-one, le-div-iff-mul-le, div-lt-iff-lt-mul}
 use lib.Dec.{leb}
 use lib.Arith.{digits-lt}
 use lib.Pow.{pow-pos, pow-mono, pow-add}
@@ -75,10 +75,18 @@ module _ (s : Bool) (e f p : ℕ) (h : p ≡ 2 ^ e) where
   unfolding floatingFraction
   floating-fraction g = rw (← h, ne-eqb _ _ g) refl
 
-  pub floating-sum : e ≤ 30 → (0 < p) × (f % p + p < 2 ^ 32)
-  floating-sum l =
-      let z : 0 < p = omega (arith, pow-pos e) in
-      (z, omega (arith, mod-lt f z, pow-mono l))
+  -- the code has m, f's last e bits
+  module _ (m : ℕ) (me : m ≡ bits 0 e f) where
+    rest-is : m ≡ f % 2 ^ e
+    unfolding bits
+    rest-is = me ∙ ap (λ (n : ℕ). n % 2 ^ e) (div-one f)
+
+    pub parted-fraction : (f / 2 ^ e ≡ 0 → ⊥) → Fraction (record { negative = s; numerator = f / 2 ^ e; denominator = m + p }) ≡ floatingFraction s e f
+    unfolding floatingFraction
+    parted-fraction g = rw (rest-is, h, ne-eqb _ _ g) refl
+
+    pub parted-sum : e ≤ 30 → m + p < 2 ^ 64
+    parted-sum l = omega (arith, rest-is, h, mod-lt f (pow-pos e), pow-mono l)
 
 module _ (s : Bool) (f : ℕ) where
   pub special-infinity : f % 2 ≡ 0 → Infinity s ≡ floatingSpecial s f

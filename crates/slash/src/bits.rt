@@ -26,7 +26,7 @@ pub(crate) fn field(w: u64, from: u64, count: u64) -> u64
     requires { ⌜ (from < 64) × (count < 64) ⌝ }
     ensures { λ r. ⌜ r ≡ bits from count w ⌝ }
 {
-    (w >> from) % power(count)
+    (w >> from) & (power(count) - 1)
 }
 
 // Whether bit from of w is set.

@@ -35,15 +35,14 @@ fn fraction(negative: bool, e: u64, f: u64) -> Value
     requires { ⌜ e ≤ 30 ⌝ }
     ensures { λ r. ⌜ r ≡ floatingFraction negative e f ⌝ }
 {
-    let p = power(e);
-    let n = f / p;
+    let n = f >> e;
     if n == 0 {
         Value::Zero(negative)
     } else {
         Value::Fraction(Parts {
             negative: negative,
             numerator: n,
-            denominator: f % p + p,
+            denominator: field(f, 0, e) + power(e),
         })
     }
 }

@@ -6,6 +6,7 @@ use Prim.Native.Nat.{ℕ, suc, _+_, _-_, _*_, _/_, _%_, _^_, _≤_, _<_}
 use native.Mathlib.Omega.{arith}
 use native.Mathlib.Nat.{mod-lt, add-comm, one-mul, zero-add}
 use native.Mathlib.Decide.{ℕ-discrete}
+use lib.Bits.{bitAnd, and-mask}
 use lib.Dec.{eqb, leb}
 use lib.Pow.{pow-pos, pow-mono}
 use lib.IntN.{ℤ, pos, natAbs}
@@ -45,23 +46,26 @@ use Rattle.unary.proofs.SignedLaws.{read, same, small-fits, of-read, si
 -- ---- the highest bit of a word
 
 module _ (h w : ℕ) (l : h < 64) where
-  pub power-some : 0 < (1 * 2 ^ h) % 2 ^ 64
-  power-some = subst⁻¹ (λ (p : ℕ). 0 < p) (one-shl h l) (pow-pos h)
+  pub power-some : 1 ≤ (1 * 2 ^ h) % 2 ^ 64
+  power-some = subst⁻¹ (λ (p : ℕ). 1 ≤ p) (one-shl h l) (pow-pos h)
 
-  pub set-fits : Fits w64 ((1 * 2 ^ h) % 2 ^ 64 + w % ((1 * 2 ^ h) % 2 ^ 64))
+  rest-is : bitAnd w ((1 * 2 ^ h) % 2 ^ 64 - 1) ≡ w % 2 ^ h
+  rest-is = rw (one-shl h l) (and-mask w h)
+
+  pub set-fits : Fits w64 ((1 * 2 ^ h) % 2 ^ 64 + bitAnd w ((1 * 2 ^ h) % 2 ^ 64 - 1))
   set-fits =
       let m : w % 2 ^ h < 2 ^ h = mod-lt w (pow-pos h) in
       let k : h + 1 ≤ 64 = omega arith in
       let b : 2 ^ (h + 1) ≤ 2 ^ 64 = pow-mono k in
-      subst⁻¹ (λ (p : ℕ). Fits w64 (p + w % p)) (one-shl h l) (record { fits = omega (arith, pow-next h) })
+      record { fits = omega (arith, one-shl h l, rest-is, pow-next h) }
 
-  pub is-set : (s : Bool) → s ≡ true → (1 * 2 ^ h) % 2 ^ 64 + w % ((1 * 2 ^ h) % 2 ^ 64) ≡ withHighest h s w
+  pub is-set : (s : Bool) → s ≡ true → (1 * 2 ^ h) % 2 ^ 64 + bitAnd w ((1 * 2 ^ h) % 2 ^ 64 - 1) ≡ withHighest h s w
   unfolding withHighest bitOf
-  is-set s e = rw (one-shl h l, e, one-mul) refl
+  is-set s e = rw e (omega (arith, one-shl h l, rest-is, one-mul (2 ^ h)))
 
-  pub not-set : (s : Bool) → s ≡ false → w % ((1 * 2 ^ h) % 2 ^ 64) ≡ withHighest h s w
+  pub not-set : (s : Bool) → s ≡ false → bitAnd w ((1 * 2 ^ h) % 2 ^ 64 - 1) ≡ withHighest h s w
   unfolding withHighest bitOf
-  not-set s e = rw (one-shl h l, e) (omega arith)
+  not-set s e = rw e (omega (arith, rest-is))
 
 -- the width that a format tells
 module _ (f : Format) (known-it : known f ≡ true) (a : Answer) (told : outcome a ≡ ofKnown f (widthOf f)) where

@@ -25,7 +25,7 @@ fn with_highest(highest: u64, set: bool, w: u64) -> u64
     ensures { λ r. ⌜ r ≡ withHighest highest set w ⌝ }
 {
     let power = 1 << highest;
-    let rest = w % power;
+    let rest = w & (power - 1);
     if set { power + rest } else { rest }
 }
 

@@ -12,11 +12,11 @@ shr-result c = search needs
 power-requires : tie.Need-power-requires
 power-requires c κs = search needs
 
-rem-result : tie.Need-rem-result
-rem-result c = omega (arith, c .power .ensures, pow-pos (c .before .args .count))
+sub-result : tie.Need-sub-result
+sub-result c = omega (arith, c .power .ensures, pow-pos (c .before .args .count))
 
 returns : tie.Need-returns
 returns c = field-is _ _ _ _ (c .power .ensures)
 
 pub field-spec : {M : Type 1} → statement M
-field-spec = tie.close (tie.spec shr-result power-requires rem-result returns)
+field-spec = tie.close (tie.spec shr-result power-requires sub-result returns)

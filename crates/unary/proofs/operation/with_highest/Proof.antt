@@ -1,6 +1,5 @@
 -- `unary::operation::with_highest` meets its contract. Assumes nothing.
 use Rattle.unary.proofs.UnaryLaws.{power-some, set-fits, is-set, not-set}
-use mathlib.Core.Bool.{not}
 use borrow.Author.Needs.{needs}
 use Rattle.unary.proofs.operation.with_highest.Statement.{statement}
 use Rattle.unary.proofs.operation.with_highest.Tie as tie
@@ -8,11 +7,11 @@ use Rattle.unary.proofs.operation.with_highest.Tie as tie
 shl-power : tie.Need-shl-power
 shl-power c = search needs
 
-rem-rest : tie.Need-rem-rest
-rem-rest c = power-some _ (c .args .w) (c .pre)
+sub-rest : tie.Need-sub-rest
+sub-rest c = power-some _ (c .args .w) (c .pre)
 
 add-result : tie.Need-add-result
-add-result c = set-fits _ _ (c .before .pre)
+add-result c = set-fits (c .before .args .highest) (c .before .args .w) (c .before .pre)
 
 returns : tie.Need-returns
 returns c = is-set _ _ (c .before .pre) _ (c .if1 .taken)
@@ -21,4 +20,4 @@ returns-2 : tie.Need-returns-2
 returns-2 c = not-set _ _ (c .before .pre) _ (c .if1 .left)
 
 pub with-highest-spec : {M : Type 1} → statement M
-with-highest-spec = tie.close (tie.spec shl-power rem-rest add-result returns returns-2)
+with-highest-spec = tie.close (tie.spec shl-power sub-rest add-result returns returns-2)
