@@ -34,6 +34,16 @@ LATER = b"642\t800\t1000\n"
 # Recipes and what is printed for them.
 
 
+def longer_than_any():
+    """A recording of 65,537 of the widest lines, void breaths among them: more than decides a listing."""
+    onsets = (1_000_000_000 + 50_000 * number for number in range(65_537))
+    breaths = (
+        (onset, onset + number * 7_919 % 20_000, onset + number * 104_729 % 30_000)
+        for number, onset in enumerate(onsets)
+    )
+    return b"".join(line(*breath) for breath in breaths)
+
+
 def recipes():
     """The lines of the test program's input: a comment and a recipe for each case."""
     for name, pieces in all_cases():

@@ -35,8 +35,9 @@ def outputs():
     ]
     yield "cases", "stdin", as_lines(requests)
     yield "cases", "stdout", as_lines(map(answers.answer, requests))
-    yield "night", "stdin", [cases_night.EXAMPLE]
-    yield "night", "stdout", [night.listing(cases_night.EXAMPLE)]
+    longest = cases_night.longer_than_any()
+    yield "night", "stdin", [longest]
+    yield "night", "stdout", [night.listing(longest)]
     yield "night_cases", "stdin", as_lines(cases_night.recipes())
     yield "night_cases", "stdout", cases_night.answers()
 

@@ -1,16 +1,20 @@
 -- Laws of comparison. Assumes nothing.
-use mathlib.Core.Path.{_≡_, refl, ap, _∙_}
+use mathlib.Core.Path.{_≡_, refl, sym, ap, _∙_}
 use mathlib.Core.Bool.{Bool, true, false, _&&_, _||_}
-use Prim.Native.Nat.{ℕ, _≤_, _<_}
+use Prim.Native.Nat.{ℕ, _+_, _-_, _^_, _≤_, _<_}
+use native.Mathlib.Omega.{arith}
+use native.Mathlib.Decide.{ℕ-discrete, decLe}
 use lib.Dec.{eqb}
 use borrow.Author.Tests.{lt-ltb, le-ltb, eq-eqb, ne-eqb}
 use Rattle.slash.specs.Answers.{Outcome, stop, done, _then_}
-use Rattle.slash.specs.Words.{readWord, isNan}
+use Rattle.slash.specs.Words.{numberIn, checkWord, readWord, isNan}
+use Rattle.slash.proofs.WordLaws.{checked-number, checked-read}
 use Rattle.slash.proofs.AnswerLaws.{then-stop, then-done}
 use Rattle.slash.specs.declared.format.Format.{Format}
 use Rattle.slash.specs.declared.number.Value.{Value}
 use Rattle.slash.specs.declared.number.Number.{Number}
 use Rattle.arithmetic.specs.Operands.{operandOf}
+use Rattle.arithmetic.specs.Steps.{onLine}
 use Rattle.arithmetic.specs.Comparison.{orderOf, signedOrder, outside, compareOf, compareValues, compareWords}
 use Rattle.arithmetic.specs.declared.operand.Operand.{Operand}
 use Rattle.arithmetic.specs.declared.ordering.Order.{Order}
@@ -51,6 +55,57 @@ module _ (s t : Bool) (m n : ℕ) where
     unfolding signedOrder
     signed-neither a b = rw (z, a, b) refl
 
+-- numbers that lie as others do
+order-same : (p q m n : ℕ) → (p < q → m < n) → (p ≡ q → m ≡ n) → (q < p → n < m) → orderOf p q ≡ orderOf m n
+order-same p q m n below equal above = go (decLe (p + 1) q) (ℕ-discrete p q)
+  where
+    go : Dec (p + 1 ≤ q) → Dec (p ≡ q) → orderOf p q ≡ orderOf m n
+    go (yes l) e = let i : p < q = omega arith in sym (order-below p q i) ∙ order-below m n (below i)
+    go (no l) (yes e) = sym (order-equal p q (omega arith) e) ∙ order-equal m n (omega (arith, equal e)) (equal e)
+    go (no l) (no e) =
+        let g : n < m = above (omega arith) in
+        sym (order-above p q (omega arith) e) ∙ order-above m n (omega arith) (λ i. omega arith)
+
+-- signs and sizes by their places on a line
+pub line-order : (s t : Bool) (m n : ℕ) → m < 2 ^ 62 → n < 2 ^ 62 → orderOf (onLine s m) (onLine t n) ≡ signedOrder s t m n
+line-order s t m n l k = go s t (ℕ-discrete m 0) (ℕ-discrete n 0)
+  where
+    neither : (m ≡ 0 → n ≡ 0 → ⊥) → Dec (m ≡ 0) → (eqb m 0 && eqb n 0) ≡ false
+    neither i (yes e) = rw (eq-eqb _ _ e, ne-eqb _ _ (i e)) refl
+    neither i (no e) = rw (ne-eqb _ _ e) refl
+
+    zero : (s t : Bool) → m ≡ 0 → n ≡ 0 → orderOf (onLine s m) (onLine t n) ≡ signedOrder s t m n
+    zero s t d e =
+        let i : onLine s m ≡ onLine t n = same s t in
+        sym (order-equal _ _ (omega arith) i) ∙ signed-zero s t m n (rw (eq-eqb _ _ d, eq-eqb _ _ e) refl)
+      where
+        same : (s t : Bool) → onLine s m ≡ onLine t n
+        same true true = omega arith
+        same true false = omega arith
+        same false true = omega arith
+        same false false = omega arith
+
+    below : (m ≡ 0 → n ≡ 0 → ⊥) → Dec (m ≡ 0) → 2 ^ 62 - m < 2 ^ 62 + n
+    below i (yes e) = let j : n ≡ 0 → ⊥ = i e in omega arith
+    below i (no e) = omega arith
+
+    above : (m ≡ 0 → n ≡ 0 → ⊥) → Dec (m ≡ 0) → 2 ^ 62 - n < 2 ^ 62 + m
+    above i (yes e) = let j : n ≡ 0 → ⊥ = i e in omega arith
+    above i (no e) = omega arith
+
+    some : (s t : Bool) → (m ≡ 0 → n ≡ 0 → ⊥) → (eqb m 0 && eqb n 0) ≡ false → orderOf (onLine s m) (onLine t n) ≡ signedOrder s t m n
+    some true true i z = order-same (2 ^ 62 - m) (2 ^ 62 - n) n m (λ h. omega arith) (λ h. omega arith) (λ h. omega arith) ∙ signed-both true true m n z refl refl
+    some true false i z = sym (order-below _ _ (below i (ℕ-discrete m 0))) ∙ signed-below true false m n z refl refl
+    some false true i z =
+        let h : 2 ^ 62 - n < 2 ^ 62 + m = above i (ℕ-discrete m 0) in
+        sym (order-above _ _ (omega arith) (λ e. omega arith)) ∙ signed-above false true m n z refl refl
+    some false false i z = order-same (2 ^ 62 + m) (2 ^ 62 + n) m n (λ h. omega arith) (λ h. omega arith) (λ h. omega arith) ∙ signed-neither false false m n z refl refl
+
+    go : (s t : Bool) → Dec (m ≡ 0) → Dec (n ≡ 0) → orderOf (onLine s m) (onLine t n) ≡ signedOrder s t m n
+    go s t (yes d) (yes e) = zero s t d e
+    go s t (yes d) (no e) = let i : m ≡ 0 → n ≡ 0 → ⊥ = λ _ h. e h in some s t i (neither i (yes d))
+    go s t (no d) e = let i : m ≡ 0 → n ≡ 0 → ⊥ = λ h _. d h in some s t i (neither i (no d))
+
 module _ (s : Bool) where
   pub outside-below : s ≡ true → Below ≡ outside s
   unfolding outside
@@ -81,7 +136,9 @@ module _ (f : Format) (left right : ℕ) where
     unfolding compareWords
     compare-right e = then-done _ xe (then-stop _ e)
 
-    pub compare-both : (y : Number) → done y ≡ readWord f right → (o : Order) → o ≡ compareValues (x .value) (y .value)
-        → done o ≡ compareWords f left right
-    unfolding compareWords
-    compare-both y ye o e = then-done _ xe (then-done _ ye (ap done e))
+-- two good words, whose values are v and w
+pub compare-both : (f : Format) (left right : ℕ) → checkWord f left ≡ done tt → checkWord f right ≡ done tt → (v w : Value) → v ≡ numberIn f left .value
+    → w ≡ numberIn f right .value → (o : Order) → o ≡ compareValues v w → done o ≡ compareWords f left right
+unfolding compareWords
+compare-both f left right c d v w ve we o e =
+    then-done _ (sym (checked-read f left c)) (then-done _ (sym (checked-read f right d)) (ap done (e ∙ rw (ve, we, checked-number f left c, checked-number f right d) refl)))

@@ -1,14 +1,15 @@
 -- Laws of operands: what a word says is small. Assumes nothing.
-use mathlib.Core.Path.{_≡_, subst}
+use mathlib.Core.Path.{_≡_, sym, ap, _∙_, subst}
 use mathlib.Core.Bool.{true}
 use Prim.Native.Nat.{ℕ, _*_, _^_, _≤_, _<_}
 use native.Mathlib.Omega.{arith}
 use native.Mathlib.Nat.{mul-le-mul}
 use Rattle.slash.specs.Answers.{done}
 use Rattle.slash.specs.Formats.{known}
-use Rattle.slash.specs.Words.{readWord}
+use Rattle.slash.specs.Words.{numberOf, numberIn, checkWord, readWord}
 use Rattle.slash.specs.Canonical.{HeldParts, HeldValue}
 use Rattle.slash.proofs.FormatLaws.{small-parts}
+use Rattle.slash.proofs.WordLaws.{checked-number, checked-read}
 use Rattle.slash.proofs.Canonical.{read-known, read-held}
 use Rattle.slash.specs.declared.format.Format.{Format}
 use Rattle.slash.specs.declared.number.Parts.{Parts}
@@ -64,3 +65,11 @@ held-small f h NotANumber q = tt
 -- what a word says is small
 pub read-small : (f : Format) (w : ℕ) (x : Number) → readWord f w ≡ done x → Small (operandOf (x .value))
 read-small f w x r = let h = read-known f w x r in held-small f h (x .value) (read-held f h w x r)
+
+pub checked-small : (f : Format) (w : ℕ) → checkWord f w ≡ done tt → Small (operandOf (numberOf f w .value))
+checked-small f w c = read-small f w _ (checked-read f w c)
+
+-- and so is its value, as the code has it
+pub checked-operand : (f : Format) (w : ℕ) → checkWord f w ≡ done tt → (v : Value) → v ≡ numberIn f w .value → Small (operandOf v)
+checked-operand f w c v e =
+    subst (λ (u : Value). Small (operandOf u)) (sym (e ∙ ap (λ (x : Number). x .value) (checked-number f w c))) (checked-small f w c)

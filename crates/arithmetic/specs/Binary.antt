@@ -4,7 +4,7 @@ use mathlib.Core.Bool.{Bool, true, false, not, _&&_, _||_}
 use lib.Dec.{leb, eqb}
 use Rattle.convergents.specs.Choice.{if_then_else_}
 use Rattle.slash.specs.Answers.{Outcome, stop, done, _then_}
-use Rattle.slash.specs.Formats.{known}
+use Rattle.slash.specs.Formats.{whenKnown}
 use Rattle.slash.specs.Words.{readWord, wordFor, isNan}
 use Rattle.slash.specs.declared.format.Format.{Format}
 use Rattle.slash.specs.declared.number.Parts.{Parts}
@@ -107,6 +107,6 @@ combinedWords f code left right =
 -- Stop 1 for the format, 2 for the code, then the words'.
 unfoldable pub binaryWord : Format → (code left right : ℕ) → Outcome ℕ
 binaryWord f code left right =
-    if not (known f) then stop 1 0 else
+    whenKnown f (
     if not (isBinary code) then stop 2 0 else
-    combinedWords f code left right
+    combinedWords f code left right)

@@ -1,10 +1,12 @@
 -- The paper's marked cases, as rows of one table.
-use Prim.Native.Nat.{ℕ}
+use Prim.Native.Nat.{ℕ, _*_}
 use mathlib.Core.Bool.{Bool, true, false, _&&_, not}
 use mathlib.Core.List.{List, [], _∷_}
-use lib.Dec.{eqb}
+use lib.Dec.{eqb, ltb}
 use Rattle.convergents.specs.Choice.{if_then_else_}
+use Rattle.convergents.specs.Pairs.{pair, miss}
 use Rattle.slash.specs.Answers.{Outcome, stop, done}
+use Rattle.slash.specs.Formats.{holds}
 use Rattle.slash.specs.Rounding.{roundRatio}
 use Rattle.slash.specs.Words.{writeNumber}
 use Rattle.arithmetic.specs.Binary.{binaryWord}
@@ -29,6 +31,10 @@ approximate = true
 pub data Edge : Type 0 where
   -- In this format n/d gives r/s, with this mark.
   rounds : Format → (n d r s : ℕ) → Bool → Edge
+  -- This format holds t/u too, which misses n/d by as much as r/s does.
+  ties : Format → (n d r s t u : ℕ) → Edge
+  -- This format holds t/u too, which is nearer to n/d than r/s is: a miss over its denominator and d is the distance.
+  nearer : Format → (n d r s t u : ℕ) → Edge
   -- In this format n/d, with this mark, is written as this word.
   writes : Format → (n d : ℕ) → Bool → ℕ → Edge
   -- In this format the words left and right add up to this word.
@@ -37,8 +43,11 @@ pub data Edge : Type 0 where
 unfoldable pub edges : List Edge
 edges =
     rounds (fixed 9) 277 642 85 197 approximate ∷
+    ties (fixed 9) 277 642 85 197 192 445 ∷
     rounds (fixed 2) 5 2 2 1 approximate ∷
+    ties (fixed 2) 5 2 2 1 3 1 ∷
     rounds (fixed 3) 1 10 0 1 approximate ∷
+    nearer (fixed 3) 1 10 0 1 1 7 ∷
     rounds (fixed 3) 15 2 7 1 approximate ∷
     rounds (fixed 3) 8 1 1 0 approximate ∷
     rounds (fixed 3) 7 1 7 1 exact ∷
@@ -64,6 +73,8 @@ isWord w (done v) = eqb v w
 -- Whether the definitions say what a row says.
 unfoldable pub agrees : Edge → Bool
 agrees (rounds f n d r s a) = isRounded r s a (roundRatio f n d)
+agrees (ties f n d r s t u) = holds f t u && eqb (miss n d (pair r s)) (miss n d (pair t u))
+agrees (nearer f n d r s t u) = holds f t u && ltb (miss n d (pair t u) * s) (miss n d (pair r s) * u)
 agrees (writes f n d a w) =
     isWord w (writeNumber f (record { value = Fraction (record { negative = false; numerator = n; denominator = d }); approximate = a }))
 agrees (adds f left right sum) = isWord sum (binaryWord f 1 left right)

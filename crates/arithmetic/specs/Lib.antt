@@ -4,3 +4,4 @@ pub mod Binary
 pub mod Comparison
 pub mod Conversion
 pub mod Edges
+pub mod Steps

@@ -4,8 +4,9 @@ ghost use Rattle.slash.specs.Answers.{outcome, WhenDone};
 ghost use Rattle.slash.specs.Words.{BestWord, numberOf};
 ghost use Rattle.arithmetic.specs.Conversion.{convertWord};
 use slash::Answer;
+use slash::Checked;
 use slash::Format;
-use slash::Reading;
+use slash::Number;
 use slash::Stop;
 
 // w, a word of the source format, as a word of the target's.
@@ -19,8 +20,17 @@ pub fn convert(source: Format, target: Format, w: u64) -> Answer
     if !target.is_known() {
         return Answer::Stopped(Stop::plain(Stop::FORMAT));
     }
-    match slash::read(source, w) {
-        Reading::Stopped(s) => Answer::Stopped(s),
-        Reading::Done(x) => slash::write(target, x),
+    match slash::check(source, w) {
+        Checked::Stopped(s) => Answer::Stopped(s),
+        Checked::Good => {
+            let v = slash::value(source, w);
+            slash::write(
+                target,
+                Number {
+                    value: v,
+                    approximate: slash::is_approximate(source, w),
+                },
+            )
+        }
     }
 }

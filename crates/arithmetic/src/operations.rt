@@ -4,19 +4,28 @@ ghost use mathlib.Core.Bool.{true};
 ghost use Prim.Native.Nat.{_<_, _^_};
 ghost use Rattle.slash.specs.Answers.{outcome, done, WhenDone};
 ghost use Rattle.slash.specs.Formats.{known};
-ghost use Rattle.slash.specs.Words.{BestWord, numberOf};
+ghost use Rattle.slash.specs.Words.{BestWord, numberOf, checkWord};
 ghost use Rattle.arithmetic.specs.Operands.{Small, operandOf, turned};
 ghost use Rattle.arithmetic.specs.Binary.{sumSize, sumSign, sumParts, sumOf, timesInfinity, productParts, productOf, dividedBy, quotientOf, exactOf, exactValue, isBinary, combined, combinedWords, binaryWord};
 use crate::operand::Operand;
 use crate::operand::as_operand;
 use crate::operand::sign;
 use slash::Answer;
+use slash::Checked;
 use slash::Format;
 use slash::Number;
 use slash::Parts;
-use slash::Reading;
 use slash::Stop;
 use slash::Value;
+
+// The codes of the operations.
+const ADD: u64 = 1;
+
+const SUBTRACT: u64 = 2;
+
+const MULTIPLY: u64 = 3;
+
+const DIVIDE: u64 = 4;
 
 fn sum_size(opposed: bool, ad: u64, bc: u64) -> u64
     requires { ⌜ (ad < 2 ^ 62) × (bc < 2 ^ 62) ⌝ }
@@ -161,19 +170,19 @@ fn quotient(s: bool, x: Operand, y: Operand) -> Value
     }
 }
 
-// The exact result, by code: 1 adds, 2 subtracts, 3 multiplies, 4 divides.
+// The exact result, by code; a code that is none of the first three divides.
 fn exact(code: u64, x: Operand, y: Operand) -> Value
     requires { ⌜ Small x × Small y ⌝ }
     ensures { λ r. ⌜ r ≡ exactOf code x y ⌝ }
 {
-    if code == 1 {
+    if code == ADD {
         return sum(x, y);
     }
-    if code == 2 {
+    if code == SUBTRACT {
         return sum(x, turn(y));
     }
     let s = sign(x) ^ sign(y);
-    if code == 3 {
+    if code == MULTIPLY {
         return product(s, x, y);
     }
     quotient(s, x, y)
@@ -194,19 +203,19 @@ fn exact_value(code: u64, v: Value, w: Value) -> Value
 pub fn is_binary(code: u64) -> bool
     ensures { λ r. ⌜ r ≡ isBinary code ⌝ }
 {
-    (1 <= code) & (code <= 4)
+    (ADD <= code) & (code <= DIVIDE)
 }
 
-// The numbers that two words say, combined and written.
-fn combine(f: Format, code: u64, x: Number, y: Number) -> Answer
-    requires { ⌜ (known f ≡ true) × Small (operandOf (x .value)) × Small (operandOf (y .value)) ⌝ }
-    ensures written { λ r. ⌜ outcome r ≡ done (combined f code x y) ⌝ }
-    ensures best { λ r. ⌜ WhenDone (outcome r) (λ w. BestWord f (exactValue code (x .value) (y .value)) w) ⌝ }
+// What two good words say, combined and written.
+fn combine(f: Format, code: u64, left: u64, right: u64) -> Answer
+    requires { ⌜ (checkWord f left ≡ done tt) × (checkWord f right ≡ done tt) ⌝ }
+    ensures written { λ r. ⌜ outcome r ≡ done (combined f code (numberOf f left) (numberOf f right)) ⌝ }
+    ensures best { λ r. ⌜ WhenDone (outcome r) (λ w. BestWord f (exactValue code (numberOf f left .value) (numberOf f right .value)) w) ⌝ }
 {
-    let v = x.value;
-    let w = y.value;
+    let v = slash::value(f, left);
+    let w = slash::value(f, right);
     let exact = exact_value(code, v, w);
-    let marked = x.approximate | y.approximate;
+    let marked = slash::is_approximate(f, left) | slash::is_approximate(f, right);
     slash::write(
         f,
         Number {
@@ -222,11 +231,11 @@ fn combine_words(f: Format, code: u64, left: u64, right: u64) -> Answer
     ensures written { λ r. ⌜ outcome r ≡ combinedWords f code left right ⌝ }
     ensures best { λ r. ⌜ WhenDone (outcome r) (λ w. BestWord f (exactValue code (numberOf f left .value) (numberOf f right .value)) w) ⌝ }
 {
-    match slash::read(f, left) {
-        Reading::Stopped(s) => Answer::Stopped(s),
-        Reading::Done(x) => match slash::read(f, right) {
-            Reading::Stopped(s) => Answer::Stopped(s),
-            Reading::Done(y) => combine(f, code, x, y),
+    match slash::check(f, left) {
+        Checked::Stopped(s) => Answer::Stopped(s),
+        Checked::Good => match slash::check(f, right) {
+            Checked::Stopped(s) => Answer::Stopped(s),
+            Checked::Good => combine(f, code, left, right),
         },
     }
 }

@@ -1,11 +1,13 @@
 // Comparison of two words of one format.
 ghost use mathlib.Core.Path.{_≡_};
+ghost use Prim.Native.Nat.{_<_, _^_};
 ghost use Rattle.arithmetic.specs.Operands.{Small, operandOf};
+ghost use Rattle.arithmetic.specs.Steps.{onLine};
 ghost use Rattle.arithmetic.specs.Comparison.{comparisonOutcome, orderOf, signedOrder, outside, compareOf, compareValues, compareWords};
 use crate::operand::Operand;
 use crate::operand::as_operand;
+use slash::Checked;
 use slash::Format;
-use slash::Reading;
 use slash::Stop;
 use slash::Value;
 
@@ -22,6 +24,8 @@ pub enum Comparison {
     Stopped(Stop),
 }
 
+const ZERO: u64 = 4611686018427387904;
+
 fn size_order(m: u64, n: u64) -> Order
     ensures { λ r. ⌜ r ≡ orderOf m n ⌝ }
 {
@@ -31,23 +35,21 @@ fn size_order(m: u64, n: u64) -> Order
     if m == n { Order::Equal } else { Order::Above }
 }
 
-// +0 = -0, and otherwise what is negative lies below what isn't.
+// Where a number of this sign and size lies on a line that has 0 at ZERO.
+fn place(negative: bool, size: u64) -> u64
+    requires { ⌜ size < 2 ^ 62 ⌝ }
+    ensures { λ r. ⌜ r ≡ onLine negative size ⌝ }
+{
+    if negative { ZERO - size } else { ZERO + size }
+}
+
+// +0 = -0, and otherwise what is negative lies below what isn't. By places on a line, so that no
+// branch hangs on a sign.
 fn signed_order(s: bool, t: bool, m: u64, n: u64) -> Order
+    requires { ⌜ (m < 2 ^ 62) × (n < 2 ^ 62) ⌝ }
     ensures { λ r. ⌜ r ≡ signedOrder s t m n ⌝ }
 {
-    if (m == 0) & (n == 0) {
-        return Order::Equal;
-    }
-    if s {
-        if t {
-            return size_order(n, m);
-        }
-        return Order::Below;
-    }
-    if t {
-        return Order::Above;
-    }
-    size_order(m, n)
+    size_order(place(s, m), place(t, n))
 }
 
 // Where an infinity of this sign lies.
@@ -92,13 +94,13 @@ fn compare_values(v: Value, w: Value) -> Order
 pub fn compare(f: Format, left: u64, right: u64) -> Comparison
     ensures { λ r. ⌜ comparisonOutcome r ≡ compareWords f left right ⌝ }
 {
-    match slash::read(f, left) {
-        Reading::Stopped(s) => Comparison::Stopped(s),
-        Reading::Done(x) => match slash::read(f, right) {
-            Reading::Stopped(s) => Comparison::Stopped(s),
-            Reading::Done(y) => {
-                let v = x.value;
-                let w = y.value;
+    match slash::check(f, left) {
+        Checked::Stopped(s) => Comparison::Stopped(s),
+        Checked::Good => match slash::check(f, right) {
+            Checked::Stopped(s) => Comparison::Stopped(s),
+            Checked::Good => {
+                let v = slash::value(f, left);
+                let w = slash::value(f, right);
                 Comparison::Done(compare_values(v, w))
             }
         },

@@ -1,17 +1,12 @@
 -- Laws of what a call returns and leaves behind a pointer. Assumes nothing.
 use mathlib.Core.Path.{_≡_, refl, sym, ap, _∙_, subst}
-use mathlib.Core.Bool.{Bool, true, false}
 use mathlib.Core.List.{List}
 use Prim.Native.Nat.{ℕ, _+_, _*_, _%_, _^_}
 use Rattle.slash.specs.Answers.{Outcome, stop, done, _then_, outcome, WhenDone}
 use Rattle.slash.specs.declared.answer.Stop.{Stop}
 use Rattle.slash.specs.declared.answer.Answer.{Answer}
 use Rattle.slash.specs.declared.answer.Answer.the-variants as Answer
-use Rattle.slash.specs.Formats.{known}
-use Rattle.slash.specs.Words.{isOverZero, writeNumber, BestFor, BestWord}
-use Rattle.slash.proofs.WriteLaws.{write-unknown, write-over-zero, write-done, word-best}
 use Rattle.slash.specs.declared.format.Format.{Format}
-use Rattle.slash.specs.declared.number.Number.{Number}
 use Rattle.arithmetic.specs.Comparison.{comparisonOutcome, compareWords}
 use Rattle.arithmetic.specs.declared.ordering.Comparison.{Comparison}
 use Rattle.arithmetic.specs.declared.ordering.Comparison.the-variants as Comparison
@@ -19,8 +14,7 @@ use Rattle.arithmetic.specs.declared.ordering.Order.{Order}
 use Rattle.vectors.specs.Each.{told, vectorAfter, storedOutcome}
 use Rattle.vectors.specs.declared.stored.Stored.{Stored}
 use Rattle.vectors.specs.declared.stored.Stored.the-variants as Stored
-use lib.Dec.{eqb}
-use Rattle.ffi.specs.Status.{status, behind, formatOf, ratioOf, orderNumber, compareNumber}
+use Rattle.ffi.specs.Status.{status, behind, orderNumber, compareNumber}
 
 behind-done : (x old : ℕ) → behind (done x) old ≡ x
 unfolding behind
@@ -87,24 +81,3 @@ pub compare-as : (f : Format) (left right : ℕ) (c : Comparison) (a : Answer) �
     → outcome a ≡ (comparisonOutcome c then λ x. done (orderNumber x)) → outcome a ≡ compareNumber f left right
 unfolding compareNumber
 compare-as f left right c a e g = g ∙ ap (λ (o : Outcome Order). o then λ x. done (orderNumber x)) e
-
--- ---- rounding
-
--- what is written of n/d is its best word
-pub round-best : (kind k n d : ℕ) → WhenDone (writeNumber (formatOf kind k) (ratioOf n d)) (λ w. BestFor (formatOf kind k) n d w)
-unfolding BestWord isOverZero
-round-best kind k n d = go (known f) refl (eqb d 0) refl
-  where
-    f : Format
-    f = formatOf kind k
-
-    x : Number
-    x = ratioOf n d
-
-    P : ℕ → Type 0
-    P w = BestFor f n d w
-
-    go : (b : Bool) → known f ≡ b → (z : Bool) → eqb d 0 ≡ z → WhenDone (writeNumber f x) P
-    go false h z i = subst (λ (o : Outcome ℕ). WhenDone o P) (write-unknown f x h) tt
-    go true h true i = subst (λ (o : Outcome ℕ). WhenDone o P) (write-over-zero f x h i) tt
-    go true h false i = subst (λ (o : Outcome ℕ). WhenDone o P) (write-done f x h i) (word-best f h false (x .value) i)

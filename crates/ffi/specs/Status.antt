@@ -1,10 +1,7 @@
 -- What a call from C returns, and what it leaves behind a pointer.
 use Prim.Native.Nat.{ℕ, _+_, _*_, _%_, _^_}
-use mathlib.Core.Bool.{false}
 use Rattle.slash.specs.Answers.{Outcome, stop, done, _then_}
 use Rattle.slash.specs.declared.format.Format.{Format}
-use Rattle.slash.specs.declared.number.Number.{Number}
-use Rattle.slash.specs.declared.number.Value.the-variants.{Fraction}
 use Rattle.arithmetic.specs.Comparison.{compareWords}
 use Rattle.arithmetic.specs.declared.ordering.Order.{Order}
 use Rattle.arithmetic.specs.declared.ordering.Order.the-variants.{Below, Equal, Above, Unordered}
@@ -22,10 +19,6 @@ behind (done x) old = x
 
 abbrev pub formatOf : (kind k : ℕ) → Format
 formatOf kind k = record { kind = kind; k = k }
-
--- n/d, exact and with sign 0, as a number to be written.
-abbrev pub ratioOf : (n d : ℕ) → Number
-ratioOf n d = record { value = Fraction (record { negative = false; numerator = n; denominator = d }); approximate = false }
 
 -- 0 below, 1 equal, 2 above, 3 unordered.
 unfoldable pub orderNumber : Order → ℕ

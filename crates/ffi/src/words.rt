@@ -2,40 +2,28 @@
 ghost use mathlib.Core.Path.{_≡_};
 ghost use Prim.Native.Nat.{_≤_};
 ghost use Rattle.slash.specs.Answers.{outcome, done, _then_, WhenDone};
-ghost use Rattle.slash.specs.Words.{numberOf, writeNumber, BestFor, BestWord};
+ghost use Rattle.slash.specs.Words.{numberOf, writeNumber, exactRatio, BestFor, BestWord};
 ghost use Rattle.arithmetic.specs.Binary.{exactValue, binaryWord};
 ghost use Rattle.arithmetic.specs.Comparison.{comparisonOutcome};
 ghost use Rattle.arithmetic.specs.Conversion.{convertWord};
 ghost use Rattle.unary.specs.Unary.{exactUnary, unaryWord};
 ghost use Rattle.unary.specs.Divisor.{gcdWord};
 ghost use Rattle.unary.specs.Quotients.{wordQuotients, quotientCount, listed};
-ghost use Rattle.ffi.specs.Status.{status, behind, formatOf, ratioOf, orderNumber, compareNumber};
+ghost use Rattle.ffi.specs.Status.{status, behind, formatOf, orderNumber, compareNumber};
 use crate::status::store;
 use arithmetic::Comparison;
 use arithmetic::Order;
 use slash::Answer;
 use slash::Format;
-use slash::Number;
-use slash::Parts;
-use slash::Value;
 
 // n/d rounded into a format: the word. Stops 1, 6.
 #[no_mangle]
 pub extern "C" fn slash_round(kind: u64, k: u64, n: u64, d: u64, word: &mut u64) -> u64
-    ensures returned { λ r. ⌜ r ≡ status (writeNumber (formatOf kind k) (ratioOf n d)) ⌝ }
-    ensures stored { λ _. ⌜ now (word .exit) ≡ behind (writeNumber (formatOf kind k) (ratioOf n d)) (now (word .entry)) ⌝ }
-    ensures best { λ _. ⌜ WhenDone (writeNumber (formatOf kind k) (ratioOf n d)) (λ _. BestFor (formatOf kind k) n d (now (word .exit))) ⌝ }
+    ensures returned { λ r. ⌜ r ≡ status (writeNumber (formatOf kind k) (exactRatio n d)) ⌝ }
+    ensures stored { λ _. ⌜ now (word .exit) ≡ behind (writeNumber (formatOf kind k) (exactRatio n d)) (now (word .entry)) ⌝ }
+    ensures best { λ _. ⌜ WhenDone (writeNumber (formatOf kind k) (exactRatio n d)) (λ _. BestFor (formatOf kind k) n d (now (word .exit))) ⌝ }
 {
-    let p = Parts {
-        negative: false,
-        numerator: n,
-        denominator: d,
-    };
-    let x = Number {
-        value: Value::Fraction(p),
-        approximate: false,
-    };
-    store(slash::write(Format { kind: kind, k: k }, x), word)
+    store(slash::round_word(Format { kind: kind, k: k }, n, d), word)
 }
 
 // A binary operation. Stops 1, 2, 4, 5.

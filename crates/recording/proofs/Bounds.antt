@@ -6,14 +6,14 @@ use native.Mathlib.Omega.{arith}
 use native.Mathlib.Nat.{sub-zero, zero-sub, suc-sub-suc}
 use lib.ListN.{length, take, drop, length-append, length-take}
 use lib.Seq.{take-nil, take-take}
-use Rattle.recording.specs.Breaths.{noSums, withBreath}
+use Rattle.breaths.specs.Breaths.{noSums, withBreath}
 use Rattle.recording.specs.Lines.{lengthBefore, readLine}
 use Rattle.recording.specs.Listing.{breathLine, listingFrom, listingOf}
-use Rattle.recording.specs.Stores.{Proper}
-use Rattle.recording.specs.declared.breath.Sums.{Sums}
+use Rattle.breaths.specs.Shown.{Proper}
+use Rattle.breaths.specs.declared.breath.Sums.{Sums}
 use Rattle.recording.specs.declared.line.Line.{Line}
 use Rattle.recording.specs.declared.line.Line.the-variants.{Read, Refused}
-use Rattle.recording.proofs.RatioLaws.{sum-proper}
+use Rattle.breaths.proofs.RatioLaws.{sum-proper}
 use Rattle.recording.proofs.LineLaws.{before-le, Whole, Sound, line-sound}
 use Rattle.recording.proofs.ListingLaws.{breath-length, all-length, refused-length, from-end, from-over, from-refused, from-read, of-some, of-none}
 

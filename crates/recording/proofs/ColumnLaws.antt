@@ -1,44 +1,58 @@
 -- Columns: a word's fraction as it is read, and how long the columns are. Assumes nothing.
 use mathlib.Core.Path.{_≡_, refl, sym, ap, _∙_, subst}
-use mathlib.Core.List.{[], _∷_, _++_}
+use mathlib.Core.List.{List, [], _∷_, _++_}
 use Prim.Native.Nat.{ℕ, _+_, _*_, _/_, _%_, _^_, _≤_, _<_}
 use native.Mathlib.Omega.{arith}
-use native.Mathlib.Nat.{div-lt-iff-lt-mul}
+use native.Mathlib.Nat.{mod-lt, div-lt-iff-lt-mul, div-add-mod'}
 use lib.ListN.{length, length-append}
 use Rattle.convergents.specs.Pairs.{Pair, pair}
-use Rattle.slash.specs.Answers.{stop, done, readingOutcome}
-use Rattle.slash.specs.Words.{numberOf, readWord, pairOf}
-use Rattle.slash.specs.declared.answer.Stop.{Stop}
+use Rattle.slash.specs.Formats.{kFits}
+use Rattle.slash.specs.Words.{numberIn, partsOf, pairOf}
 use Rattle.slash.specs.declared.format.Format.{Format}
-use Rattle.slash.specs.declared.number.Number.{Number}
-use Rattle.slash.specs.declared.word.Reading.{Reading}
-use Rattle.slash.specs.declared.word.Reading.the-variants as Reading
-use Rattle.slash.proofs.AnswerLaws.{done-inj, reading-stop, reading-done}
+use Rattle.slash.specs.declared.number.Parts.{Parts}
+use Rattle.slash.specs.declared.number.Value.{Value}
 use Rattle.recording.specs.Text.{tab, slash, point, decimal, hexadecimal}
-use Rattle.recording.specs.Breaths.{format, wordOf}
-use Rattle.recording.specs.Columns.{fractionOf, thousandths, percentage, fractionText, shares, columns}
-use Rattle.recording.specs.Stores.{Readable, Shown, ShownRatio}
-use Rattle.recording.specs.declared.ratio.Ratio.{Ratio}
-use Rattle.recording.specs.declared.ratio.Ratio.the-variants.{Void, Word}
-use Rattle.recording.proofs.TextLaws.{decimal-length, hexadecimal-length}
+use Rattle.breaths.specs.Breaths.{format, wordOf}
+use Rattle.recording.specs.Columns.{thousandths, percentage, fractionText, shares, columns}
+use Rattle.breaths.specs.Breaths.{fractionOf}
+use Rattle.breaths.specs.Shown.{Shown, ShownRatio}
+use Rattle.breaths.specs.declared.ratio.Ratio.{Ratio}
+use Rattle.breaths.specs.declared.ratio.Ratio.the-variants.{Void, Word}
+use Rattle.recording.proofs.TextLaws.{decimal-small, decimal-length, hexadecimal-length}
 
--- ---- what `slash::read` answers of a word that is read without a stop
+-- ---- a fraction from its word
 
-module _ (f : Format) (w : ℕ) (h : Readable w) (fe : f ≡ format) (r : Reading) (e : readingOutcome r ≡ readWord f w) where
-  answer : readWord f w ≡ done (numberOf format w)
-  answer = ap (λ (g : Format). readWord g w) fe ∙ h
+-- the parts p of the value v that the word says
+module _ (w : ℕ) (f : Format) (fe : f ≡ format) (v : Value) (ve : v ≡ numberIn f w .value) (p : Parts) (pe : p ≡ partsOf v) where
+  pub fraction-parts : pair (p .numerator) (p .denominator) ≡ fractionOf w
+  unfolding fractionOf pairOf numberIn kFits
+  fraction-parts = rw (pe, ve, fe) refl
 
-  pub fraction-read : (x : Number) → r ≡ Reading.Done x → (y : Pair) → y ≡ pairOf (x .value) → y ≡ fractionOf w
-  unfolding fractionOf
-  fraction-read x d y p = p ∙ ap (λ (z : Number). pairOf (z .value)) (done-inj (reading-done e d ∙ answer))
+  pub fraction-small : Shown w → (p .numerator < 2 ^ 32) × (p .denominator < 2 ^ 32)
+  fraction-small s =
+      let i : p .numerator ≡ fractionOf w .numerator = ap (λ (x : Pair). x .numerator) fraction-parts in
+      let j : p .denominator ≡ fractionOf w .denominator = ap (λ (x : Pair). x .denominator) fraction-parts in
+      (omega (arith, s .proper, s .small), omega (arith, s .small))
 
-  pub fraction-stop : (s : Stop) → r ≡ Reading.Stopped s → ⊥
-  fraction-stop s d =
-      let t : stop (s .number) (s .place) ≡ done (numberOf format w) = reading-stop e d ∙ answer in
-      let z : _≡_ {A = ℕ} 0 1 = cc in
-      omega arith
+-- the percentage of a fraction from 0 to 1 is at most 100.0
+pub at-most-1000 : (n d : ℕ) → 1 ≤ d → n ≤ d → thousandths n d < 1001
+unfolding thousandths
+at-most-1000 n d p l = div-lt-iff-lt-mul {k = 2 * d} {x = 2000 * n + d} {y = 1001} (omega arith) .1 (omega arith)
+
+-- Thousandths are 1000 n/d to the nearest whole, half up: t less a half is at most 1000 n/d, which is below t and a half. (Each side times
+-- 2d, and d more.)
+pub nearest-half-up : (n d : ℕ) → 1 ≤ d → (2 * thousandths n d * d ≤ 2000 * n + d) × (2000 * n + d < 2 * (thousandths n d + 1) * d)
+unfolding thousandths
+nearest-half-up n d p =
+    let whole = div-add-mod' (2000 * n + d) (2 * d) in
+    let rest : (2000 * n + d) % (2 * d) < 2 * d = mod-lt (2000 * n + d) (omega arith) in
+    (omega (arith, whole), omega (arith, whole, rest))
 
 -- ---- the columns by their pieces
+
+pub percentage-digits : (t a : ℕ) → a ≡ 48 + t % 10 → decimal (t / 10) ++ point ++ (a ∷ []) ≡ percentage t
+unfolding percentage
+percentage-digits t a e = ap (λ (u : List ℕ). decimal (t / 10) ++ point ++ u) (decimal-small (t % 10) a (mod-lt t (omega arith)) e)
 
 module _ (w n d : ℕ) (e : pair n d ≡ fractionOf w) where
   pub word-shares : (t : ℕ) → t ≡ thousandths n d → fractionText (pair n d) ++ tab ++ percentage t ≡ shares (Word w)
@@ -47,30 +61,31 @@ module _ (w n d : ℕ) (e : pair n d ≡ fractionOf w) where
       ap (λ (u : ℕ). fractionText (pair n d) ++ tab ++ percentage u) f
       ∙ ap (λ (x : Pair). fractionText x ++ tab ++ percentage (thousandths (x .numerator) (x .denominator))) e
 
-  pub shown-parts : Shown w → (n < 2 ^ 32) × (d < 2 ^ 32) × (1 ≤ d)
-  shown-parts s =
-      let i : n ≡ fractionOf w .numerator = ap (λ (x : Pair). x .numerator) e in
-      let j : d ≡ fractionOf w .denominator = ap (λ (x : Pair). x .denominator) e in
-      (omega (arith, s .proper, s .small), omega (arith, s .small), omega (arith, s .some))
+  module _ (s : Shown w) where
+    shown-numerator : n ≤ d
+    shown-numerator = omega (arith, ap (λ (x : Pair). x .numerator) e, ap (λ (x : Pair). x .denominator) e, s .proper)
+
+    shown-denominator : (1 ≤ d) × (d ≤ 32767)
+    shown-denominator =
+        let j : d ≡ fractionOf w .denominator = ap (λ (x : Pair). x .denominator) e in
+        (omega (arith, s .some), omega (arith, s .small))
+
+    pub shown-parts : (n < 100000) × (d < 100000) × (1 ≤ d)
+    shown-parts = (omega (arith, shown-numerator, shown-denominator .1), omega (arith, shown-denominator .1), shown-denominator .0)
+
+    pub shown-percentage : (t : ℕ) → t ≡ thousandths n d → t < 1001
+    shown-percentage t f = omega (arith, at-most-1000 n d (shown-denominator .0) shown-numerator)
 
 module _ (r : Ratio) where
   pub columns-are : (w : ℕ) → w ≡ wordOf r → hexadecimal 8 w ++ tab ++ shares r ≡ columns r
   unfolding columns
   columns-are w e = ap (λ (v : ℕ). hexadecimal 8 v ++ tab ++ shares r) e
 
-  pub word-void : r ≡ Void → 0 ≡ wordOf r
-  unfolding wordOf
-  word-void e = rw e refl
-
   pub shares-void : r ≡ Void → (45 ∷ 9 ∷ 45 ∷ []) ≡ shares r
   unfolding shares
   shares-void e = rw e refl
 
   module _ (w : ℕ) (e : r ≡ Word w) where
-    pub word-word : w ≡ wordOf r
-    unfolding wordOf
-    word-word = rw e refl
-
     pub shares-word : shares (Word w) ≡ shares r
     shares-word = ap shares (sym e)
 
@@ -78,11 +93,6 @@ module _ (r : Ratio) where
     shown-word s = subst ShownRatio e s
 
 -- ---- how long the columns are
-
--- the percentage of a fraction from 0 to 1 is at most 100.0
-pub at-most-1000 : (n d : ℕ) → 1 ≤ d → n ≤ d → thousandths n d < 1001
-unfolding thousandths
-at-most-1000 n d p l = div-lt-iff-lt-mul {k = 2 * d} {x = 2000 * n + d} {y = 1001} (omega arith) .1 (omega arith)
 
 percentage-length : (t : ℕ) → t < 1001 → length (percentage t) ≤ 5
 unfolding percentage

@@ -7,10 +7,11 @@ use Rattle.slash.specs.Bits.{bits, bit, bitOf, fields}
 use Rattle.slash.specs.Formats.{holds}
 use Rattle.slash.specs.Words.{fixedValue, fixedNumber, numberOf, fixedWord, pairWord, wordFor, pairOf}
 use Rattle.recording.specs.Text.{decimalFrom, decimal, hexDigit, hexadecimal}
-use Rattle.recording.specs.Breaths.{span, breathOf, isVoid, ratioWord, breathRatio, withBreath, noneLeft, nightRatio, wordOf}
+use Rattle.breaths.specs.Breaths.{span, breathOf, isVoid, ratioWord, breathRatio, withBreath, noneLeft, nightRatio, wordOf}
 use Rattle.recording.specs.Lines.{isDigit, digitsFrom, readMark, lengthBefore, fromMarks, fromFields, readLine}
 use Rattle.recording.specs.Lines.{fields as line-fields}
-use Rattle.recording.specs.Columns.{fractionOf, thousandths, percentage, fractionText, shares, columns}
+use Rattle.recording.specs.Columns.{thousandths, percentage, fractionText, shares, columns}
+use Rattle.breaths.specs.Breaths.{fractionOf}
 use Rattle.recording.specs.Listing.{breathLine, allLine, refusedLine, listingFrom, listingOf}
 use Rattle.recording.specs.Example.{exampleRecording, exampleListing}
 

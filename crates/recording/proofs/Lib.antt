@@ -1,8 +1,8 @@
 -- The laws that the functions' proofs cite, and what follows from the definitions.
 pub mod TextLaws
-pub mod RatioLaws
 pub mod ColumnLaws
 pub mod LineLaws
+pub mod StartLaws
 pub mod ListingLaws
 pub mod Bounds
 pub mod Marks

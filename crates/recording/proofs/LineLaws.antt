@@ -1,20 +1,22 @@
 -- Reading a line: where a byte stands first, digits, fields. Assumes nothing.
 use mathlib.Core.Path.{_≡_, refl, sym, ap, _∙_, subst}
-use mathlib.Core.Bool.{Bool, true, false, _&&_}
+use mathlib.Core.Bool.{Bool, true, false, _&&_, _||_, and-false, or-true}
 use mathlib.Core.Logic.{_⊎_, inl, inr}
-use mathlib.Core.List.{List, [], _∷_}
-use Prim.Native.Nat.{ℕ, suc, _+_, _-_, _*_, _^_, _≤_, _<_, min}
+use mathlib.Core.List.{List, [], _∷_, _++_, append-assoc, append-nil}
+use Prim.Native.Nat.{ℕ, zero, suc, _+_, _-_, _*_, _^_, _≤_, _<_, min}
 use native.Mathlib.Omega.{arith}
 use native.Mathlib.Nat.{mod-lt}
 use native.Mathlib.Numerals.{add-one}
-use native.Mathlib.Decide.{decLe}
-use lib.Dec.{eqb, leb}
+use native.Mathlib.Decide.{decLe, ℕ-discrete}
+use lib.Dec.{eqb, leb, ltb}
 use lib.ListN.{length, getD, take, drop, length-take, length-drop}
-use lib.Seq.{drop-cons, take-all, drop-length}
-use borrow.Author.Tests.{eq-eqb, ne-eqb, le-leb, lt-leb, lt-ltb}
-use Rattle.recording.specs.Breaths.{span, breathOf}
+use lib.Seq.{drop-cons, split-at, take-suc, take-all, drop-length, getD-drop}
+use borrow.Author.Tests.{eq-eqb, ne-eqb, le-leb, lt-leb, le-ltb, lt-ltb, leb-true}
+use Rattle.convergents.specs.Choice.{if_then_else_}
+use Rattle.breaths.specs.Breaths.{span, breathOf}
 use Rattle.recording.specs.Lines.{isDigit, digitsFrom, readMark, lengthBefore, inFirst, fields, fromMarks, fromFields, readLine}
-use Rattle.recording.specs.declared.breath.Breath.{Breath}
+use Rattle.recording.specs.Starts.{Led}
+use Rattle.breaths.specs.declared.breath.Breath.{Breath}
 use Rattle.recording.specs.declared.line.Mark.{Mark}
 use Rattle.recording.specs.declared.line.Mark.the-variants.{Tick, Wrong}
 use Rattle.recording.specs.declared.line.Entry.{Entry}
@@ -28,7 +30,7 @@ drop-past bs i e = ap (λ (j : ℕ). drop j bs) e ∙ drop-length bs
 -- ---- the first place of a byte
 
 module _ (b : ℕ) where
-  before-step : (x : ℕ) (xs : List ℕ) (t : Bool) → eqb x b ≡ t → lengthBefore b (x ∷ xs) ≡ elim t [ true ↦ 0 | false ↦ suc (lengthBefore b xs) ]
+  pub before-step : (x : ℕ) (xs : List ℕ) (t : Bool) → eqb x b ≡ t → lengthBefore b (x ∷ xs) ≡ elim t [ true ↦ 0 | false ↦ suc (lengthBefore b xs) ]
   unfolding lengthBefore
   before-step x xs t e = ap (λ (y : Bool). elim y as (λ z. ℕ) [ true ↦ 0 | false ↦ suc (lengthBefore b xs) ]) e
 
@@ -89,47 +91,95 @@ module _ (x : ℕ) where
   unfolding isDigit
   digit-good h l t = rw (le-leb 48 x h, le-leb x 57 l) refl
 
-pub record Digits (ds : List ℕ) (v i : ℕ) : Type 0 where
-  pub within : i ≤ length ds
+pub no-tick : (n : ℕ) → Wrong ≡ Tick n → ⊥
+no-tick n e = let z : _≡_ {A = ℕ} 0 1 = cc in omega arith
+
+pub digit-bounds : (x : ℕ) (t : Bool) → (isDigit x && t) ≡ true → (48 ≤ x) × (x ≤ 57) × (t ≡ true)
+unfolding isDigit
+digit-bounds x t e = go (leb 48 x) refl (leb x 57) refl t refl e
+  where
+    go : (a : Bool) → leb 48 x ≡ a → (b : Bool) → leb x 57 ≡ b → (c : Bool) → t ≡ c → ((a && b) && c) ≡ true → (48 ≤ x) × (x ≤ 57) × (t ≡ true)
+    go true ae true be true ce f = (leb-true _ _ ae, leb-true _ _ be, ce)
+    go true ae true be false ce f = let z : _≡_ {A = ℕ} 0 1 = cc in absurd (omega arith)
+    go true ae false be c ce f = let z : _≡_ {A = ℕ} 0 1 = cc in absurd (omega arith)
+    go false ae b be c ce f = let z : _≡_ {A = ℕ} 0 1 = cc in absurd (omega arith)
+
+-- the digits read so far, and that any bytes behind them go on from their number
+pub record Leading (bs : List ℕ) (from v i : ℕ) : Type 0 where
+  pub count : ℕ
+  pub place : i ≡ from + count
+  pub within : i ≤ length bs
   pub small : v ≤ 4294967295
-  pub total : digitsFrom v (drop i ds) ≡ digitsFrom 0 ds
+  pub total : (xs : List ℕ) → digitsFrom 0 (take count (drop from bs) ++ xs) ≡ digitsFrom v xs
 
-pub digits-start : (ds : List ℕ) → Digits ds 0 0
-digits-start ds = record { within = omega arith; small = omega arith; total = refl }
+pub leading-start : (bs : List ℕ) (from : ℕ) → from ≤ length bs → Leading bs from 0 from
+leading-start bs from h = record { count = 0; place = omega arith; within = h; small = omega arith; total = λ xs. refl }
 
-module _ {ds : List ℕ} {v i : ℕ} (d : Digits ds v i) where
-  pub digits-end : length ds ≤ i → Tick v ≡ digitsFrom 0 ds
+module _ {bs : List ℕ} {from v i : ℕ} (d : Leading bs from v i) where
+  abbrev rest : List ℕ
+  rest = drop from bs
+
+  leading-taken : digitsFrom 0 (take (d .count) rest) ≡ Tick v
   unfolding digitsFrom
-  digits-end l =
-      let e : i ≡ length ds = omega (arith, d .within) in
-      sym (ap (digitsFrom v) (drop-past ds i e)) ∙ d .total
+  leading-taken = sym (ap (digitsFrom 0) (append-nil (take (d .count) rest))) ∙ d .total []
 
-  module _ (l : i < length ds) where
-    turn : (t : Bool) → (isDigit (getD ds i 0) && leb (v * 10 + (getD ds i 0 - 48)) 4294967295) ≡ t
-        → elim t [ true ↦ digitsFrom (v * 10 + (getD ds i 0 - 48)) (drop (i + 1) ds) | false ↦ Wrong ] ≡ digitsFrom 0 ds
-    turn t e =
-        ap (λ (j : ℕ). elim t as (λ z. Mark) [ true ↦ digitsFrom (v * 10 + (getD ds i 0 - 48)) (drop j ds) | false ↦ Wrong ]) (add-one i)
-        ∙ sym (ap (digitsFrom v) (drop-cons ds i 0 l) ∙ digits-step v (getD ds i 0) (drop (suc i) ds) t e)
-        ∙ d .total
+  leading-led : (i < length bs → digitsFrom 0 rest ≡ Wrong) → Led bs from v i
+  leading-led w = record { count = d .count; place = d .place; within = d .within; small = d .small; taken = leading-taken; whole = w }
 
-    pub digits-low : getD ds i 0 < 48 → Wrong ≡ digitsFrom 0 ds
-    digits-low h = turn false (digit-low _ h _)
+  pub leading-end : length bs ≤ i → Led bs from v i
+  leading-end l = leading-led (λ h. absurd (omega arith))
 
-    pub digits-high : 57 < getD ds i 0 → Wrong ≡ digitsFrom 0 ds
-    digits-high h = turn false (digit-high _ h _)
+  module _ (l : i < length bs) where
+    abbrev x : ℕ
+    x = getD bs i 0
 
-    module _ (low : 48 ≤ getD ds i 0) (high : getD ds i 0 ≤ 57) where
-      pub digits-above : 4294967295 < v * 10 + (getD ds i 0 - 48) → Wrong ≡ digitsFrom 0 ds
-      digits-above h = turn false (digit-good _ low high _ ∙ lt-leb _ _ h)
+    short : d .count < length rest
+    short = omega (arith, l, d .place, length-drop from bs)
 
-      pub digits-next : v * 10 + (getD ds i 0 - 48) ≤ 4294967295 → Digits ds (v * 10 + (getD ds i 0 - 48)) (i + 1)
-      digits-next h = record { within = omega arith; small = h; total = turn true (digit-good _ low high _ ∙ le-leb _ _ h) }
+    byte-here : getD rest (d .count) 0 ≡ x
+    byte-here = getD-drop from bs (d .count) 0 ∙ ap (λ (j : ℕ). getD bs j 0) (sym (d .place))
+
+    leading-stop : (isDigit x && leb (v * 10 + (x - 48)) 4294967295) ≡ false → Led bs from v i
+    leading-stop e =
+        let more : List ℕ = drop (suc (d .count)) rest in
+        leading-led (λ h.
+        ap (digitsFrom 0) (split-at rest (d .count) 0 short) ∙ d .total (getD rest (d .count) 0 ∷ more)
+        ∙ ap (λ (y : ℕ). digitsFrom v (y ∷ more)) byte-here ∙ digits-step v x more false e)
+
+    pub leading-low : x < 48 → Led bs from v i
+    leading-low h = leading-stop (digit-low _ h _)
+
+    pub leading-high : 57 < x → Led bs from v i
+    leading-high h = leading-stop (digit-high _ h _)
+
+    module _ (low : 48 ≤ x) (high : x ≤ 57) where
+      pub leading-above : 4294967295 < v * 10 + (x - 48) → Led bs from v i
+      leading-above h = leading-stop (digit-good _ low high _ ∙ lt-leb _ _ h)
+
+      pub leading-next : v * 10 + (x - 48) ≤ 4294967295 → Leading bs from (v * 10 + (x - 48)) (i + 1)
+      leading-next h =
+          let y : ℕ = getD rest (d .count) 0 in
+          record {
+            count = suc (d .count);
+            place = omega (arith, d .place);
+            within = omega arith;
+            small = h;
+            total = λ xs.
+                ap (λ (t : List ℕ). digitsFrom 0 (t ++ xs)) (take-suc rest (d .count) 0 short)
+                ∙ ap (digitsFrom 0) (append-assoc (take (d .count) rest) (y ∷ []) xs)
+                ∙ d .total (y ∷ xs)
+                ∙ ap (λ (z : ℕ). digitsFrom v (z ∷ xs)) byte-here
+                ∙ digits-step v x xs true (digit-good _ low high _ ∙ le-leb _ _ h);
+          }
+
+module _ {ds : List ℕ} {v k : ℕ} (l : Led ds 0 v k) where
+  pub digits-wrong : k < length ds → Wrong ≡ digitsFrom 0 ds
+  digits-wrong h = sym (l .whole h)
+
+  pub digits-tick : length ds ≤ k → Tick v ≡ digitsFrom 0 ds
+  digits-tick h = sym (l .taken) ∙ ap (digitsFrom 0) (take-all (l .count) ds (omega (arith, l .place)))
 
 -- ---- a tick mark
-
-and-false : (t : Bool) → (t && false) ≡ false
-and-false true = refl
-and-false false = refl
 
 module _ (f : List ℕ) where
   pub mark-empty : length f ≡ 0 → Wrong ≡ readMark f
@@ -183,7 +233,7 @@ module _ (used : ℕ) (onset peak next : Mark) where
 
 -- ---- fields
 
-fields-step : (x : ℕ) (xs : List ℕ) (t : Bool) → eqb x 9 ≡ t → fields (x ∷ xs) ≡ elim t [ true ↦ [] ∷ fields xs | false ↦ inFirst x (fields xs) ]
+pub fields-step : (x : ℕ) (xs : List ℕ) (t : Bool) → eqb x 9 ≡ t → fields (x ∷ xs) ≡ elim t [ true ↦ [] ∷ fields xs | false ↦ inFirst x (fields xs) ]
 unfolding fields
 fields-step x xs t e = ap (λ (y : Bool). elim y as (λ z. List (List ℕ)) [ true ↦ [] ∷ fields xs | false ↦ inFirst x (fields xs) ]) e
 
@@ -192,7 +242,7 @@ unfolding fields
 fields-nil = refl
 
 -- with no tab the line is one field
-fields-whole : (bs : List ℕ) → lengthBefore 9 bs ≡ length bs → fields bs ≡ bs ∷ []
+pub fields-whole : (bs : List ℕ) → lengthBefore 9 bs ≡ length bs → fields bs ≡ bs ∷ []
 fields-whole [] h = fields-nil
 fields-whole (x ∷ xs) h = go (eqb x 9) refl (fields-whole xs)
   where
@@ -335,7 +385,7 @@ module _ (bs : List ℕ) where
   unfolding readLine
   line-nine h = rw (le-leb _ _ h) refl
 
-  line-read : lengthBefore 10 (take 33 bs) < length (take 33 bs)
+  pub line-read : lengthBefore 10 (take 33 bs) < length (take 33 bs)
       → fromFields (suc (lengthBefore 10 (take 33 bs))) (fields (take (lengthBefore 10 (take 33 bs)) bs)) ≡ readLine bs
   unfolding readLine
   line-read h = rw (lt-leb _ _ h) refl
@@ -350,3 +400,52 @@ module _ (bs : List ℕ) where
           let l : k < length (take 33 bs) = omega arith in
           let t = length-take 33 bs in
           subst (Sound bs) (line-read l) (fields-sound bs (suc k) (omega arith) (omega (arith, l, t)) (omega (arith, l, t)) (fields (take k bs)))
+
+-- ---- the paper's words for stop 9
+
+-- what stands before b in the first m places
+module _ (b : ℕ) where
+  near : (m : ℕ) (bs : List ℕ) → lengthBefore b bs < m → lengthBefore b (take m bs) ≡ lengthBefore b bs
+  near zero bs l = absurd (omega arith)
+  near (suc m) [] l = refl
+  near (suc m) (x ∷ xs) l = go (eqb x b) refl (near m xs)
+    where
+      go : (t : Bool) → eqb x b ≡ t → (lengthBefore b xs < m → lengthBefore b (take m xs) ≡ lengthBefore b xs)
+          → lengthBefore b (x ∷ take m xs) ≡ lengthBefore b (x ∷ xs)
+      go true e ih = before-step b x (take m xs) true e ∙ sym (before-step b x xs true e)
+      go false e ih =
+          let s : lengthBefore b (x ∷ xs) ≡ suc (lengthBefore b xs) = before-step b x xs false e in
+          before-step b x (take m xs) false e ∙ ap suc (ih (omega arith)) ∙ sym s
+
+  far : (m : ℕ) (bs : List ℕ) → m ≤ lengthBefore b bs → m ≤ lengthBefore b (take m bs)
+  far zero bs l = omega arith
+  far (suc m) [] l = absurd (omega (arith, before-nil b))
+  far (suc m) (x ∷ xs) l = go (eqb x b) refl (far m xs)
+    where
+      go : (t : Bool) → eqb x b ≡ t → (m ≤ lengthBefore b xs → m ≤ lengthBefore b (take m xs)) → suc m ≤ lengthBefore b (x ∷ take m xs)
+      go true e ih = absurd (omega (arith, before-step b x xs true e))
+      go false e ih = omega (arith, before-step b x (take m xs) false e, ih (omega (arith, before-step b x xs false e)))
+
+module _ (bs : List ℕ) where
+  abbrev K : ℕ
+  K = lengthBefore 10 bs
+
+  -- A line is stopped with 9 where over 32 bytes stand before its line feed, or there is none.
+  pub line-words : readLine bs ≡ (if eqb K (length bs) || ltb 32 K then Refused 9 else fromFields (suc K) (fields (take K bs)))
+  unfolding readLine
+  line-words = go (decLe 33 K) (ℕ-discrete K (length bs))
+    where
+      go : Dec (33 ≤ K) → Dec (K ≡ length bs)
+          → readLine bs ≡ (if eqb K (length bs) || ltb 32 K then Refused 9 else fromFields (suc K) (fields (take K bs)))
+      go (yes l) e =
+          let i : length (take 33 bs) ≤ lengthBefore 10 (take 33 bs) = omega (arith, far 10 33 bs l, length-take 33 bs) in
+          rw (le-leb _ _ i, lt-ltb 32 K l, or-true) refl
+      go (no l) (yes e) =
+          let n : lengthBefore 10 (take 33 bs) ≡ K = near 10 33 bs (omega arith) in
+          let i : length (take 33 bs) ≤ K = omega (arith, length-take 33 bs) in
+          rw (n, le-leb _ _ i, eq-eqb _ _ e) refl
+      go (no l) (no e) =
+          let n : lengthBefore 10 (take 33 bs) ≡ K = near 10 33 bs (omega arith) in
+          let i : K < length (take 33 bs) = omega (arith, length-take 33 bs, before-le 10 bs) in
+          let j : K ≤ 32 = omega arith in
+          rw (n, lt-leb _ _ i, ne-eqb _ _ e, le-ltb _ _ j) refl

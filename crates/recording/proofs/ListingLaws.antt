@@ -7,19 +7,20 @@ use native.Mathlib.Numerals.{add-one}
 use lib.ListN.{length, take, drop, length-append, length-drop}
 use lib.Seq.{drop-length, drop-drop}
 use Rattle.recording.specs.Text.{tab, lineFeed, decimal}
-use Rattle.recording.specs.Breaths.{breathRatio, noSums, withBreath, nightRatio}
+use Rattle.breaths.specs.Breaths.{breathRatio, noSums, withBreath, nightRatio}
 use Rattle.recording.specs.Columns.{columns}
 use Rattle.recording.specs.Listing.{breathLine, allLine, refusedLine, listingFrom, listingOf, atStart}
-use Rattle.recording.specs.Stores.{put, Room, Stored, Proper}
+use Rattle.recording.specs.Stores.{put, Room, Stored}
+use Rattle.breaths.specs.Shown.{Proper}
 use Rattle.recording.specs.Lines.{readLine}
-use Rattle.recording.specs.declared.breath.Breath.{Breath}
-use Rattle.recording.specs.declared.breath.Sums.{Sums}
+use Rattle.breaths.specs.declared.breath.Breath.{Breath}
+use Rattle.breaths.specs.declared.breath.Sums.{Sums}
 use Rattle.recording.specs.declared.line.Entry.{Entry}
 use Rattle.recording.specs.declared.line.Line.{Line}
 use Rattle.recording.specs.declared.line.Line.the-variants.{Read, Refused}
-use Rattle.recording.specs.declared.ratio.Ratio.{Ratio}
+use Rattle.breaths.specs.declared.ratio.Ratio.{Ratio}
 use Rattle.recording.proofs.TextLaws.{put-append, put-front, stored-length, room-first, decimal-length}
-use Rattle.recording.proofs.RatioLaws.{breath-shown, night-shown, sum-bounds, sum-proper}
+use Rattle.breaths.proofs.RatioLaws.{breath-shown, night-shown, sum-bounds, sum-proper}
 use Rattle.recording.proofs.LineLaws.{tail-is, Whole, Sound, line-sound}
 use Rattle.recording.proofs.ColumnLaws.{columns-length}
 

@@ -14,7 +14,7 @@ use Rattle.recording.specs.Lines.{isDigit, digitsFrom, readMark}
 use Rattle.recording.specs.declared.line.Mark.{Mark}
 use Rattle.recording.specs.declared.line.Mark.the-variants.{Tick, Wrong}
 use Rattle.recording.proofs.TextLaws.{from-small, from-more, decimal-small, decimal-more}
-use Rattle.recording.proofs.LineLaws.{digits-step, digit-good, mark-empty, mark-leading, mark-digits}
+use Rattle.recording.proofs.LineLaws.{digits-step, digit-good, no-tick, digit-bounds, mark-empty, mark-leading, mark-digits}
 
 -- ---- every such decimal is taken
 
@@ -91,19 +91,6 @@ mark-of-decimal n l = go (ℕ-discrete n 0)
 
 tick-inj : {m n : ℕ} → Tick m ≡ Tick n → m ≡ n
 tick-inj e = cc
-
-no-tick : (n : ℕ) → Wrong ≡ Tick n → ⊥
-no-tick n e = let z : _≡_ {A = ℕ} 0 1 = cc in omega arith
-
-digit-bounds : (x : ℕ) (t : Bool) → (isDigit x && t) ≡ true → (48 ≤ x) × (x ≤ 57) × (t ≡ true)
-unfolding isDigit
-digit-bounds x t e = go (leb 48 x) refl (leb x 57) refl t refl e
-  where
-    go : (a : Bool) → leb 48 x ≡ a → (b : Bool) → leb x 57 ≡ b → (c : Bool) → t ≡ c → ((a && b) && c) ≡ true → (48 ≤ x) × (x ≤ 57) × (t ≡ true)
-    go true ae true be true ce f = (leb-true _ _ ae, leb-true _ _ be, ce)
-    go true ae true be false ce f = let z : _≡_ {A = ℕ} 0 1 = cc in absurd (omega arith)
-    go true ae false be c ce f = let z : _≡_ {A = ℕ} 0 1 = cc in absurd (omega arith)
-    go false ae b be c ce f = let z : _≡_ {A = ℕ} 0 1 = cc in absurd (omega arith)
 
 -- digits that go on from v, which isn't 0
 digits-decimal : (v : ℕ) (xs : List ℕ) (n : ℕ) → 1 ≤ v → v ≤ 4294967295 → digitsFrom v xs ≡ Tick n → (decimal v ++ xs ≡ decimal n) × (n ≤ 4294967295)

@@ -1,6 +1,6 @@
 -- Storing text: pieces one after the other, and the digits of a number. Assumes nothing.
 use mathlib.Core.Path.{_≡_, refl, sym, ap, _∙_, subst}
-use mathlib.Core.List.{List, [], _∷_, _++_}
+use mathlib.Core.List.{List, [], _∷_, _++_, append-assoc}
 use Prim.Native.Nat.{ℕ, zero, suc, _+_, _-_, _/_, _%_, _^_, _≤_, _<_}
 use native.Mathlib.Omega.{arith}
 use native.Mathlib.Nat.{add-zero, add-suc, suc-add, le-of-suc-le-suc, not-suc-le-zero, pow-suc}
@@ -12,7 +12,7 @@ use lib.ListN.{set, length, getD, drop, length-set, length-append}
 use lib.Seq.{drop-cons, drop-length}
 use borrow.Author.Tests.{lt-ltb, le-ltb}
 use Rattle.recording.specs.Text.{decimalFrom, decimal, hexDigit, hexadecimal}
-use Rattle.recording.specs.Stores.{put, Room, Stored}
+use Rattle.recording.specs.Stores.{put, Room, Stored, twoDigits}
 
 -- ---- storing, wherever the place: what runs past the end is dropped on both sides
 
@@ -65,10 +65,6 @@ module _ {o : List ℕ} {k : ℕ} where
 
   pub room-as : {t u : List ℕ} → t ≡ u → Room o k t → Room o k u
   room-as e h = subst (λ (v : List ℕ). Room o k v) e h
-
-pub store-none : (o : List ℕ) (k : ℕ) → Stored o k [] o k
-unfolding put
-store-none o k = record { bytes = refl; next = omega arith }
 
 pub store-byte : (o : List ℕ) (k b : ℕ) → Stored o k (b ∷ []) (set o k b) (k + 1)
 unfolding put
@@ -143,6 +139,44 @@ decimal-more (suc n) d h e =
     ∙ ap (λ (t : List ℕ). t ++ ((48 + suc n % 10) ∷ [])) (enough (suc n / 10) n (suc n / 10) (omega arith) (omega arith))
     ∙ sym (from-more n (suc n) h)
 
+-- two digits at a time
+
+pub two-digits : (n a b : ℕ) → a ≡ 48 + n / 10 → b ≡ 48 + n % 10 → (a ∷ []) ++ (b ∷ []) ≡ twoDigits n
+unfolding twoDigits
+two-digits n a b e f = rw (e, f) refl
+
+pub decimal-two : (n : ℕ) → 10 ≤ n → n < 100 → twoDigits n ≡ decimal n
+unfolding twoDigits
+decimal-two n h l =
+    ap (λ (t : List ℕ). t ++ ((48 + n % 10) ∷ [])) (decimal-small (n / 10) (48 + n / 10) (omega arith) refl)
+    ∙ decimal-more n (48 + n % 10) h refl
+
+pub decimal-hundreds : (n : ℕ) → 100 ≤ n → decimal (n / 100) ++ twoDigits (n % 100) ≡ decimal n
+unfolding twoDigits
+decimal-hundreds n h =
+    let a : ℕ = 48 + n % 100 / 10 in
+    let b : ℕ = 48 + n % 100 % 10 in
+    let tens : n / 10 / 10 ≡ n / 100 = omega arith in
+    let first : decimal (n / 100) ++ (a ∷ []) ≡ decimal (n / 10) =
+    ap (λ (j : ℕ). decimal j ++ (a ∷ [])) (sym tens) ∙ decimal-more (n / 10) a (omega arith) (omega arith)
+    in
+    sym (append-assoc (decimal (n / 100)) (a ∷ []) (b ∷ [])) ∙ ap (λ (t : List ℕ). t ++ (b ∷ [])) first
+    ∙ decimal-more n b (omega arith) (omega arith)
+
+pub decimal-five : (n a : ℕ) → 10000 ≤ n → n < 100000 → a ≡ 48 + n / 10000
+    → (a ∷ []) ++ twoDigits (n / 100 % 100) ++ twoDigits (n % 100) ≡ decimal n
+decimal-five n a h l e =
+    let first : (a ∷ []) ++ twoDigits (n / 100 % 100) ≡ decimal (n / 100) =
+    ap (λ (t : List ℕ). t ++ twoDigits (n / 100 % 100)) (decimal-small (n / 100 / 100) a (omega arith) (omega arith))
+    ∙ decimal-hundreds (n / 100) (omega arith)
+    in
+    ap (λ (t : List ℕ). t ++ twoDigits (n % 100)) first ∙ decimal-hundreds n (omega arith)
+
+-- room for five digits is room for the first
+pub five-room : {o : List ℕ} {k : ℕ} (n a : ℕ) → 10000 ≤ n → n < 100000 → a ≡ 48 + n / 10000 → Room o k (decimal n) → Room o k (a ∷ [])
+five-room n a h l e r =
+    room-first (twoDigits (n / 100 % 100)) (room-first (twoDigits (n % 100)) (room-as (sym (decimal-five n a h l e)) r))
+
 -- a number below 10^j has at most j digits
 pub decimal-length : (j n : ℕ) → n < 10 ^ suc j → length (decimal n) ≤ suc j
 decimal-length zero n h = omega (arith, ap length (decimal-small n (48 + n) (omega arith) refl))
@@ -157,16 +191,24 @@ decimal-length (suc j) n h = go (decLt n 10) (decimal-length j (n / 10))
 
 -- ---- hexadecimal digits
 
-pub hexadecimal-none : (c n : ℕ) → c ≡ 0 → [] ≡ hexadecimal c n
+pub hex-byte : (n a b : ℕ) → a ≡ hexDigit (n / 16 % 16) → b ≡ hexDigit (n % 16) → (a ∷ []) ++ (b ∷ []) ≡ hexadecimal 2 n
 unfolding hexadecimal
-hexadecimal-none c n e = rw e refl
+hex-byte n a b e f = rw (e, f) refl
 
-pub hexadecimal-more : (c n d : ℕ) → 1 ≤ c → d ≡ hexDigit (n % 16) → hexadecimal (c - 1) (n / 16) ++ (d ∷ []) ≡ hexadecimal c n
+hex-more : (c n m : ℕ) → m ≡ n / 256 → hexadecimal c m ++ hexadecimal 2 n ≡ hexadecimal (suc (suc c)) n
 unfolding hexadecimal
-hexadecimal-more zero n d h e = absurd (omega arith)
-hexadecimal-more (suc c) n d h e =
-    let p : suc c - 1 ≡ c = omega arith in
-    rw (e, p) refl
+hex-more c n m e =
+    let twice : m ≡ n / 16 / 16 = omega arith in
+    ap (λ (j : ℕ). hexadecimal c j ++ hexadecimal 2 n) twice
+    ∙ sym (append-assoc (hexadecimal c (n / 16 / 16)) (hexDigit (n / 16 % 16) ∷ []) (hexDigit (n % 16) ∷ []))
+
+pub hex-bytes : (n : ℕ) → hexadecimal 2 (n / 2 ^ 24) ++ hexadecimal 2 (n / 2 ^ 16) ++ hexadecimal 2 (n / 2 ^ 8) ++ hexadecimal 2 n ≡ hexadecimal 8 n
+hex-bytes n =
+    let third : List ℕ = hexadecimal 2 (n / 2 ^ 8) in
+    let last : List ℕ = hexadecimal 2 n in
+    ap (λ (t : List ℕ). t ++ third ++ last) (hex-more 2 (n / 2 ^ 16) (n / 2 ^ 24) (omega arith))
+    ∙ ap (λ (t : List ℕ). t ++ last) (hex-more 4 (n / 2 ^ 8) (n / 2 ^ 16) (omega arith))
+    ∙ hex-more 6 n (n / 2 ^ 8) (omega arith)
 
 pub hexadecimal-length : (c n : ℕ) → length (hexadecimal c n) ≡ c
 unfolding hexadecimal

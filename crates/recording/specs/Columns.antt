@@ -2,15 +2,10 @@
 use Prim.Native.Nat.{ℕ, _+_, _*_, _/_, _%_}
 use mathlib.Core.List.{List, _++_}
 use Rattle.convergents.specs.Pairs.{Pair}
-use Rattle.slash.specs.Words.{numberOf, pairOf}
 use Rattle.recording.specs.Text.{tab, slash, point, hyphen, decimal, hexadecimal}
-use Rattle.recording.specs.Breaths.{format, wordOf}
-use Rattle.recording.specs.declared.ratio.Ratio.{Ratio}
-use Rattle.recording.specs.declared.ratio.Ratio.the-variants.{Void, Word}
-
--- A word's fraction: the pair that it is read as.
-unfoldable pub fractionOf : ℕ → Pair
-fractionOf w = pairOf (numberOf format w .value)
+use Rattle.breaths.specs.Breaths.{wordOf, fractionOf}
+use Rattle.breaths.specs.declared.ratio.Ratio.{Ratio}
+use Rattle.breaths.specs.declared.ratio.Ratio.the-variants.{Void, Word}
 
 -- 1000 times n/d to the nearest whole, half up.
 unfoldable pub thousandths : (n d : ℕ) → ℕ

@@ -1,8 +1,8 @@
 -- What the papers say of a night's recording, in their order.
 pub mod Text
-pub mod Breaths
 pub mod Lines
 pub mod Columns
 pub mod Listing
-pub mod Stores
 pub mod Example
+pub mod Starts
+pub mod Stores

@@ -5,7 +5,7 @@ use mathlib.Core.List.{List, [], _∷_}
 use lib.Dec.{eqb, leb, ltb}
 use lib.ListN.{length, take}
 use Rattle.convergents.specs.Choice.{if_then_else_}
-use Rattle.recording.specs.Breaths.{breathOf}
+use Rattle.breaths.specs.Breaths.{breathOf}
 use Rattle.recording.specs.declared.line.Mark.{Mark}
 use Rattle.recording.specs.declared.line.Mark.the-variants.{Tick, Wrong}
 use Rattle.recording.specs.declared.line.Line.{Line}

@@ -3,11 +3,11 @@ use Prim.Native.Nat.{ℕ, zero, suc}
 use mathlib.Core.List.{List, [], _∷_, _++_}
 use lib.ListN.{length, drop}
 use Rattle.recording.specs.Text.{tab, lineFeed, decimal}
-use Rattle.recording.specs.Breaths.{breathRatio, noSums, withBreath, nightRatio}
+use Rattle.breaths.specs.Breaths.{breathRatio, noSums, withBreath, nightRatio}
 use Rattle.recording.specs.Lines.{readLine}
 use Rattle.recording.specs.Columns.{columns}
-use Rattle.recording.specs.declared.breath.Breath.{Breath}
-use Rattle.recording.specs.declared.breath.Sums.{Sums}
+use Rattle.breaths.specs.declared.breath.Breath.{Breath}
+use Rattle.breaths.specs.declared.breath.Sums.{Sums}
 use Rattle.recording.specs.declared.line.Line.the-variants.{Read, Refused}
 
 -- A breath's line: its number, and its columns.

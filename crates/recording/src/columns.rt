@@ -1,64 +1,38 @@
 // The columns of a printed line: word, fraction, percentage.
 ghost use mathlib.Core.Path.{_≡_};
-ghost use Prim.Native.Nat.{_≤_, _<_, _^_};
+ghost use Prim.Native.Nat.{_≤_, _<_};
 ghost use Rattle.convergents.specs.Pairs.{pair};
-ghost use Rattle.slash.specs.Words.{pairOf};
-ghost use Rattle.recording.specs.Columns.{fractionOf, thousandths, percentage, fractionText, shares, columns};
-ghost use Rattle.recording.specs.Stores.{Room, Stored, Readable, Shown, ShownRatio};
-use crate::ratio::Ratio;
-use crate::ratio::stored_format;
+ghost use Rattle.recording.specs.Columns.{thousandths, percentage, fractionText, shares, columns};
+ghost use Rattle.breaths.specs.Breaths.{fractionOf};
+ghost use Rattle.recording.specs.Stores.{Room, Stored};
+ghost use Rattle.breaths.specs.Shown.{Shown, ShownRatio};
+use crate::text::digit;
 use crate::text::put_byte;
 use crate::text::put_decimal;
 use crate::text::put_hexadecimal;
 use crate::text::put_text;
-use slash::Reading;
-use slash::Value;
+use breaths::Ratio;
 
 // Two parts, as a word has them.
-struct Fraction {
-    numerator: u64,
-    denominator: u64,
+pub(crate) struct Fraction {
+    pub(crate) numerator: u32,
+    pub(crate) denominator: u32,
 }
 
-fn as_fraction(v: Value) -> Fraction
-    ensures { λ r. ⌜ pair (r .numerator) (r .denominator) ≡ pairOf v ⌝ }
-{
-    match v {
-        Value::Fraction(p) => Fraction {
-            numerator: p.numerator,
-            denominator: p.denominator,
-        },
-        Value::Zero(_) => Fraction {
-            numerator: 0,
-            denominator: 1,
-        },
-        Value::Infinity(_) => Fraction {
-            numerator: 1,
-            denominator: 0,
-        },
-        Value::NotANumber => Fraction {
-            numerator: 0,
-            denominator: 0,
-        },
-    }
-}
-
-// A word's fraction. A ratio's word is read without a stop.
+// The fraction of a ratio's word.
 fn word_fraction(w: u64) -> Fraction
-    requires { ⌜ Readable w ⌝ }
+    requires { ⌜ Shown w ⌝ }
     ensures { λ r. ⌜ pair (r .numerator) (r .denominator) ≡ fractionOf w ⌝ }
 {
-    match slash::read(stored_format(), w) {
-        Reading::Done(x) => {
-            let v = x.value;
-            as_fraction(v)
-        }
-        Reading::Stopped(_) => as_fraction(Value::NotANumber),
+    let p = slash::parts_of(slash::value(Ratio::format(), w));
+    Fraction {
+        numerator: p.numerator as u32,
+        denominator: p.denominator as u32,
     }
 }
 
-fn put_fraction(out: &mut [u8], at: usize, n: u64, d: u64) -> usize
-    requires { ⌜ Room (now out) at (fractionText (pair n d)) ⌝ }
+fn put_fraction(out: &mut [u8], at: usize, n: u32, d: u32) -> usize
+    requires { ⌜ (n < 100000) × (d < 100000) × Room (now out) at (fractionText (pair n d)) ⌝ }
     ensures { λ r. ⌜ Stored (now (out .entry)) at (fractionText (pair n d)) (now (out .exit)) r ⌝ }
 {
     let slash = put_decimal(out, at, n);
@@ -67,20 +41,20 @@ fn put_fraction(out: &mut [u8], at: usize, n: u64, d: u64) -> usize
 }
 
 // 1000 times n/d to the nearest whole, half up.
-fn in_thousandths(n: u64, d: u64) -> u64
-    requires { ⌜ (n < 2 ^ 32) × (d < 2 ^ 32) × (1 ≤ d) ⌝ }
+fn in_thousandths(n: u32, d: u32) -> u32
+    requires { ⌜ (n < 100000) × (d < 100000) × (1 ≤ d) ⌝ }
     ensures { λ r. ⌜ r ≡ thousandths n d ⌝ }
 {
     (2000 * n + d) / (2 * d)
 }
 
-fn put_percentage(out: &mut [u8], at: usize, t: u64) -> usize
-    requires { ⌜ Room (now out) at (percentage t) ⌝ }
+fn put_percentage(out: &mut [u8], at: usize, t: u32) -> usize
+    requires { ⌜ (t < 1001) × Room (now out) at (percentage t) ⌝ }
     ensures { λ r. ⌜ Stored (now (out .entry)) at (percentage t) (now (out .exit)) r ⌝ }
 {
     let point = put_decimal(out, at, t / 10);
     let tenths = put_byte(out, point, b'.');
-    put_decimal(out, tenths, t % 10)
+    put_byte(out, tenths, digit(t % 10))
 }
 
 // What stands behind the word w of a ratio: its fraction, and the percentage of that fraction.
@@ -98,7 +72,7 @@ pub(crate) fn put_columns(out: &mut [u8], at: usize, x: Ratio) -> usize
     requires { ⌜ ShownRatio x × Room (now out) at (columns x) ⌝ }
     ensures { λ r. ⌜ Stored (now (out .entry)) at (columns x) (now (out .exit)) r ⌝ }
 {
-    let tab = put_hexadecimal(out, at, 8, x.word());
+    let tab = put_hexadecimal(out, at, x.word());
     let behind = put_byte(out, tab, b'\t');
     match x {
         Ratio::Void => put_text(out, behind, b"-\t-"),

@@ -1,13 +1,8 @@
-// A night's recording: breaths, their ratios as slash words, and the listing of a whole night.
-mod breath;
+// A night's recording: its lines, and the listing of a whole night.
 mod columns;
 mod line;
 mod listing;
-mod ratio;
 mod stop;
 mod text;
 
-pub use breath::Breath;
-pub use breath::Sums;
 pub use listing::list;
-pub use ratio::Ratio;

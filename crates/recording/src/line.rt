@@ -3,8 +3,9 @@ ghost use mathlib.Core.Path.{_≡_};
 ghost use Prim.Native.Nat.{_≤_, min};
 ghost use lib.ListN.{length};
 ghost use Rattle.recording.specs.Lines.{digitsFrom, readMark, lengthBefore, fields, fromMarks, fromFields, readLine};
-use crate::breath::Breath;
+ghost use Rattle.recording.specs.Starts.{Led, Opened, Sought};
 use crate::stop;
+use breaths::Breath;
 
 // The longest line, with its line feed.
 const MOST_BYTES: usize = 33;
@@ -27,7 +28,31 @@ pub(crate) struct Entry {
 // What a line says: a breath, or the number of a stop.
 pub(crate) enum Line {
     Read(Entry),
-    Refused(u64),
+    Refused(u32),
+}
+
+// The number of some digits, as many as make a tick mark, and the place behind them.
+pub(crate) struct Digits {
+    pub(crate) value: u64,
+    pub(crate) end: usize,
+}
+
+// A tick mark, and the place behind the byte that ends it.
+pub(crate) struct Ended {
+    pub(crate) ticks: u32,
+    pub(crate) behind: usize,
+}
+
+// What stands at a place: a tick mark and the byte that is to end it, or anything else.
+pub(crate) enum Start {
+    Mark(Ended),
+    Other,
+}
+
+// What one pass over a line finds: three tick marks, or anything else.
+pub(crate) enum Pass {
+    Breath(Entry),
+    Other,
 }
 
 // How many bytes stand before the first b.
@@ -45,24 +70,46 @@ fn length_before(bytes: &[u8], b: u8) -> usize
     i
 }
 
+// The digits from a place on.
+fn leading_digits(bytes: &[u8], from: usize) -> Digits
+    requires { ⌜ from ≤ length (now bytes) ⌝ }
+    ensures { λ r. ⌜ Led (now (bytes .entry)) from (r .value) (r .end) ⌝ }
+{
+    let mut value: u64 = 0;
+    let mut i = from;
+    while i < bytes.len() {
+        let b = bytes[i];
+        if b < b'0' || b'9' < b {
+            return Digits {
+                value: value,
+                end: i,
+            };
+        }
+        let next = value * 10 + (b - b'0') as u64;
+        if MOST_TICKS < next {
+            return Digits {
+                value: value,
+                end: i,
+            };
+        }
+        value = next;
+        i += 1;
+    }
+    Digits {
+        value: value,
+        end: i,
+    }
+}
+
 // The number of some digits.
 fn read_digits(digits: &[u8]) -> Mark
     ensures { λ r. ⌜ r ≡ digitsFrom 0 (now (digits .entry)) ⌝ }
 {
-    let mut value: u64 = 0;
-    let mut i = 0;
-    while i < digits.len() {
-        let b = digits[i];
-        if b < b'0' || b'9' < b {
-            return Mark::Wrong;
-        }
-        value = value * 10 + (b - b'0') as u64;
-        if MOST_TICKS < value {
-            return Mark::Wrong;
-        }
-        i += 1;
+    let d = leading_digits(digits, 0);
+    if d.end < digits.len() {
+        return Mark::Wrong;
     }
-    Mark::Tick(value as u32)
+    Mark::Tick(d.value as u32)
 }
 
 fn read_mark(field: &[u8]) -> Mark
@@ -129,8 +176,8 @@ fn least(a: usize, b: usize) -> usize
     if a < b { a } else { b }
 }
 
-// The line at the start of some bytes.
-pub(crate) fn read_line(bytes: &[u8]) -> Line
+// The line at the start of some bytes, whatever is wrong with it.
+fn read_any(bytes: &[u8]) -> Line
     ensures { λ r. ⌜ r ≡ readLine (now (bytes .entry)) ⌝ }
 {
     let most = least(bytes.len(), MOST_BYTES);
@@ -140,4 +187,64 @@ pub(crate) fn read_line(bytes: &[u8]) -> Line
         return Line::Refused(stop::LONG);
     }
     read_fields(k + 1, &bytes[..k])
+}
+
+// The tick mark from a place on that the byte `end` ends.
+fn read_start(bytes: &[u8], from: usize, end: u8) -> Start
+    requires { ⌜ from ≤ length (now bytes) ⌝ }
+    ensures { λ r. ⌜ Opened (now (bytes .entry)) from end r ⌝ }
+{
+    let d = leading_digits(bytes, from);
+    let k = d.end;
+    if k == bytes.len() {
+        return Start::Other;
+    }
+    if bytes[k] != end {
+        return Start::Other;
+    }
+    if k == from {
+        return Start::Other;
+    }
+    if bytes[from] == b'0' {
+        if from + 1 < k {
+            return Start::Other;
+        }
+    }
+    Start::Mark(Ended {
+        ticks: d.value as u32,
+        behind: k + 1,
+    })
+}
+
+// The breath at the start of some bytes, in one pass.
+fn read_breath(bytes: &[u8]) -> Pass
+    ensures { λ r. ⌜ Sought (now (bytes .entry)) r ⌝ }
+{
+    let Start::Mark(onset) = read_start(bytes, 0, b'\t') else {
+        return Pass::Other;
+    };
+    let Start::Mark(peak) = read_start(bytes, onset.behind, b'\t') else {
+        return Pass::Other;
+    };
+    let Start::Mark(next) = read_start(bytes, peak.behind, b'\n') else {
+        return Pass::Other;
+    };
+    if MOST_BYTES < next.behind {
+        return Pass::Other;
+    }
+    let b = Breath::between(onset.ticks, peak.ticks, next.ticks);
+    Pass::Breath(Entry {
+        breath: b,
+        used: next.behind,
+    })
+}
+
+// The line at the start of some bytes. Where one pass finds no breath, the long way tells why.
+pub(crate) fn read_line(bytes: &[u8]) -> Line
+    ensures { λ r. ⌜ r ≡ readLine (now (bytes .entry)) ⌝ }
+{
+    match read_breath(bytes) {
+        Pass::Breath(entry) => Line::Read(entry),
+        Pass::Other => read_any(bytes),
+    }
 }

@@ -1,11 +1,11 @@
 // The listing of a night's recording.
 ghost use mathlib.Core.Path.{_≡_};
-ghost use Prim.Native.Nat.{_≤_};
+ghost use Prim.Native.Nat.{_+_, _^_, _≤_, _<_};
 ghost use lib.ListN.{length};
+ghost use Rattle.breaths.specs.Breaths.{withBreath};
 ghost use Rattle.recording.specs.Listing.{breathLine, allLine, refusedLine, listingOf, atStart};
-ghost use Rattle.recording.specs.Stores.{Room, Stored, Proper};
-use crate::breath::Breath;
-use crate::breath::Sums;
+ghost use Rattle.recording.specs.Stores.{Room, Stored};
+ghost use Rattle.breaths.specs.Shown.{Proper};
 use crate::columns::put_columns;
 use crate::line::Line;
 use crate::line::read_line;
@@ -13,18 +13,35 @@ use crate::stop;
 use crate::text::put_byte;
 use crate::text::put_decimal;
 use crate::text::put_text;
+use breaths::Breath;
+use breaths::Sums;
 
 // The most lines of a recording.
-const MOST_LINES: u64 = 65536;
+const MOST_LINES: u32 = 65536;
 
-fn put_breath(out: &mut [u8], at: usize, number: u64, b: Breath) -> usize
-    requires { ⌜ Room (now out) at (breathLine number b) ⌝ }
+fn put_breath(out: &mut [u8], at: usize, number: u32, b: Breath) -> usize
+    requires { ⌜ (number < 100000) × Room (now out) at (breathLine number b) ⌝ }
     ensures { λ r. ⌜ Stored (now (out .entry)) at (breathLine number b) (now (out .exit)) r ⌝ }
 {
     let tab = put_decimal(out, at, number);
     let columns = put_byte(out, tab, b'\t');
     let end = put_columns(out, columns, b.ratio());
     put_byte(out, end, b'\n')
+}
+
+// A night's sums with one breath more: a void breath is left out.
+fn with_breath(s: Sums, b: Breath) -> Sums
+    requires { ⌜ (s .inspiration + 2 ^ 32 < 2 ^ 64) × (s .whole + 2 ^ 32 < 2 ^ 64) ⌝ }
+    ensures { λ r. ⌜ r ≡ withBreath s b ⌝ }
+{
+    if b.is_void() {
+        s
+    } else {
+        Sums {
+            inspiration: s.inspiration + b.inspiration as u64,
+            whole: s.whole + b.whole as u64,
+        }
+    }
 }
 
 fn put_all(out: &mut [u8], at: usize, s: Sums) -> usize
@@ -36,8 +53,8 @@ fn put_all(out: &mut [u8], at: usize, s: Sums) -> usize
     put_byte(out, end, b'\n')
 }
 
-fn put_refused(out: &mut [u8], at: usize, stop: u64, line: u64) -> usize
-    requires { ⌜ Room (now out) at (refusedLine stop line) ⌝ }
+fn put_refused(out: &mut [u8], at: usize, stop: u32, line: u32) -> usize
+    requires { ⌜ (stop < 100) × (line < 100000) × Room (now out) at (refusedLine stop line) ⌝ }
     ensures { λ r. ⌜ Stored (now (out .entry)) at (refusedLine stop line) (now (out .exit)) r ⌝ }
 {
     let number = put_text(out, at, b"refused\t");
@@ -74,7 +91,7 @@ fn put_lines(bytes: &[u8], out: &mut [u8]) -> usize
             Line::Read(entry) => {
                 let b = entry.breath;
                 at = put_breath(out, at, number, b);
-                sums = sums.with(b);
+                sums = with_breath(sums, b);
                 from += entry.used;
                 number += 1;
             }

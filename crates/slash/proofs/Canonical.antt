@@ -16,24 +16,21 @@ use Rattle.convergents.specs.Rounding.{held, round}
 use Rattle.convergents.proofs.Optimal.{held-is, one-held}
 use Rattle.convergents.proofs.Theorem.{round-best, round-lowest, round-held, round-exact}
 use Rattle.convergents.proofs.Loop.{differs-not}
-use Rattle.slash.specs.Answers.{Outcome, stop, done}
+use Rattle.slash.specs.Answers.{stop, done}
 use Rattle.slash.specs.Formats.{known, holds}
-use Rattle.slash.specs.Words.{numberOf, wordStop, readWord, pairWord, nanWord, wordFor, isOverZero, writeNumber, valueOf}
+use Rattle.slash.specs.Words.{numberOf, readWord, pairWord, nanWord, wordFor, isOverZero, writeNumber, valueOf}
 use Rattle.slash.specs.Canonical.{Lowest, HeldParts, HeldValue, Reduced, Canonical, SameValue, SameNumber, Stores, CanonicalWord, WrittenBack}
 use Rattle.slash.specs.declared.format.Format.{Format}
 use Rattle.slash.specs.declared.number.Parts.{Parts}
 use Rattle.slash.specs.declared.number.Value.{Value}
 use Rattle.slash.specs.declared.number.Value.the-variants.{Fraction, Zero, Infinity, NotANumber}
 use Rattle.slash.specs.declared.number.Number.{Number}
-use Rattle.slash.proofs.AnswerLaws.{done-inj}
+use Rattle.slash.proofs.AnswerLaws.{done-inj, no-stop}
 use Rattle.slash.proofs.FormatLaws.{format-limit}
 use Rattle.slash.proofs.RoundTrip.{Proper, value-infinity, value-zero, value-fraction, Says, says-read, pair-says, nan-says}
-use Rattle.slash.proofs.WordLaws.{read-unknown, read-stop, read-done}
+use Rattle.slash.proofs.WordLaws.{checked-known, checked-read, read-checked}
 use Rattle.slash.proofs.WriteLaws.{lowest-proper, zero-held, over-some, write-unknown, write-over-zero, write-done}
 use Rattle.slash.proofs.Recompose.{Fractional, fractional}
-
-no-stop : {A : Type 0} {n p : ℕ} {x : A} → stop n p ≡ done x → ⊥
-no-stop e = let z : _≡_ {A = ℕ} 0 1 = cc in omega arith
 
 module _ (f : Format) (h : known f ≡ true) where
   -- a held fraction in lowest terms is rounded to itself, exactly, so that its own parts are written
@@ -84,7 +81,7 @@ module _ (f : Format) (h : known f ≡ true) where
   read-written x c w e =
       let g : wordFor f (x .approximate) (x .value) ≡ w = done-inj (sym (held-written x (c .is-held)) ∙ e) in
       subst (λ (v : ℕ). readWord f v ≡ done x) g
-      (says-read h (canonical-says (x .approximate) (x .value) (c .is-held) (c .reduced)))
+      (says-read (canonical-says (x .approximate) (x .value) (c .is-held) (c .reduced)))
 
   -- a fraction that is held, in lowest terms or not: its rounding is the same value, held, and in lowest terms
   module _ (p : Parts) (q : HeldParts f p) where
@@ -195,14 +192,7 @@ module _ (f : Format) (h : known f ≡ true) where
 
   module _ (w : ℕ) (x : Number) (r : readWord f w ≡ done x) where
     pub read-says : Says f w x
-    read-says = go (ℕ-discrete (wordStop f w) 0)
-      where
-        go : Dec (wordStop f w ≡ 0) → Says f w x
-        go (yes c) = record { clear = c; number = done-inj (read-done f w h 0 (sym c) refl _ refl ∙ r) }
-        go (no c) =
-            let s : stop (wordStop f w) 0 ≡ done x = read-stop f w h _ refl c ∙ r in
-            let z : _≡_ {A = ℕ} 0 1 = cc in
-            absurd (omega arith)
+    read-says = let c = read-checked f w r in record { clear = c; number = done-inj (sym (checked-read f w c) ∙ r) }
 
     of-value : (v : Value) → x .value ≡ v → HeldValue f v
     unfolding HeldValue
@@ -266,7 +256,7 @@ module _ (f : Format) (h : known f ≡ true) where
     pair-canonical =
         record {
           number = record { value = valueOf s (pair n d); approximate = a };
-          read = says-read h (pair-says f s a n d h l (lowest-proper n d low));
+          read = says-read (pair-says f s a n d h l (lowest-proper n d low));
           stores = pair-stores;
         }
 
@@ -282,7 +272,7 @@ module _ (f : Format) (h : known f ≡ true) where
   word-canonical a NotANumber z =
       record {
         number = record { value = NotANumber; approximate = false };
-        read = says-read h (nan-says f h);
+        read = says-read (nan-says f h);
         stores = refl;
       }
 
@@ -297,8 +287,4 @@ written-canonical f x w e = go (known f) refl (isOverZero (x .value)) refl
 
 -- what is read is of a known format
 pub read-known : (f : Format) (w : ℕ) (x : Number) → readWord f w ≡ done x → known f ≡ true
-read-known f w x e = go (known f) refl
-  where
-    go : (b : Bool) → known f ≡ b → known f ≡ true
-    go true h = h
-    go false h = absurd (no-stop (read-unknown f w h ∙ e))
+read-known f w x e = checked-known f w (read-checked f w e)

@@ -1,19 +1,18 @@
 -- Laws of formats: what a known format says of its k, and that each is a limit. Assumes nothing.
 use mathlib.Core.Path.{_≡_, refl, sym, ap₂, _∙_}
-use mathlib.Core.Logic.{_⊎_, inl, inr}
 use mathlib.Core.Bool.{Bool, true, false, _&&_, _||_}
 use Prim.Native.Nat.{ℕ, zero, suc, _+_, _-_, _*_, _^_, _≤_, _<_}
 use native.Mathlib.Omega.{arith}
 use native.Mathlib.Decide.{ℕ-discrete}
-use lib.Dec.{leb, eqb}
+use lib.Dec.{leb}
 use lib.Pow.{pow-pos, pow-mono}
 use borrow.Author.Tests.{leb-true, eqb-true, le-leb, eq-eqb, ne-eqb}
 use Rattle.convergents.specs.Pairs.{pair}
 use Rattle.convergents.specs.Rounding.{Limit, held}
 use Rattle.convergents.proofs.Optimal.{held-is}
-use Rattle.slash.specs.Answers.{Outcome, stop, done}
+use Rattle.slash.specs.Answers.{stop, done}
 use Rattle.slash.specs.Bits.{bitCount}
-use Rattle.slash.specs.Formats.{isFixed, isFloating, known, ofKnown, makeFormat, slashBits, widthOf, holds, largestNumerator, largestDenominator}
+use Rattle.slash.specs.Formats.{isFixed, isFloating, kFits, known, ofKnown, makeFormat, slashBits, widthOf, holds, largestNumerator, largestDenominator}
 use Rattle.slash.specs.declared.format.Format.{Format}
 use Rattle.slash.proofs.BitLaws.{least-power, least-count, bit-count-lt, bit-count-le, bit-count-pos, bit-count-mono}
 
@@ -42,40 +41,46 @@ and-parts : (a b : Bool) → (a && b) ≡ true → (a ≡ true) × (b ≡ true)
 and-parts true b h = (refl, h)
 and-parts false b h = let z : _≡_ {A = ℕ} 0 1 = cc in absurd (omega arith)
 
-or-parts : (a b : Bool) → (a || b) ≡ true → (a ≡ true) ⊎ (b ≡ true)
-or-parts true b h = inl refl
-or-parts false b h = inr h
+-- the answers of `k_fits` and `is_known`
+module _ (f : Format) where
+  pub fits-fixed : f .kind ≡ 1 → (leb 2 (f .k) && leb (f .k) 31) ≡ kFits f
+  unfolding kFits
+  fits-fixed e = rw (eq-eqb _ _ e) refl
+
+  pub fits-floating : (f .kind ≡ 1 → ⊥) → (leb 2 (f .k) && leb (f .k) 32) ≡ kFits f
+  unfolding kFits
+  fits-floating n = rw (ne-eqb _ _ n) refl
+
+  pub known-is : (b : Bool) → b ≡ kFits f → ((isFixed f || isFloating f) && b) ≡ known f
+  unfolding known
+  known-is b e = rw e refl
+
+  pub known-fits : known f ≡ true → kFits f ≡ true
+  unfolding known
+  known-fits h = and-parts (isFixed f || isFloating f) (kFits f) h .1
+
+-- a k that fits
+module _ (f : Format) (h : kFits f ≡ true) where
+  pub fixed-fit : f .kind ≡ 1 → f .k ≤ 31
+  fixed-fit e = leb-true _ _ (and-parts (leb 2 (f .k)) (leb (f .k) 31) (fits-fixed f e ∙ h) .1)
+
+  pub fit-k : (2 ≤ f .k) × (f .k ≤ 32)
+  fit-k = go (ℕ-discrete (f .kind) 1)
+    where
+      go : Dec (f .kind ≡ 1) → (2 ≤ f .k) × (f .k ≤ 32)
+      go (yes e) =
+          let low = leb-true _ _ (and-parts (leb 2 (f .k)) (leb (f .k) 31) (fits-fixed f e ∙ h) .0) in
+          (low, omega (arith, fixed-fit e))
+      go (no n) =
+          let both = and-parts (leb 2 (f .k)) (leb (f .k) 32) (fits-floating f n ∙ h) in
+          (leb-true _ _ (both .0), leb-true _ _ (both .1))
 
 module _ (f : Format) (h : known f ≡ true) where
-  bounds : (kind most : ℕ) → (eqb (f .kind) kind && leb 2 (f .k) && leb (f .k) most) ≡ true → (f .kind ≡ kind) × (2 ≤ f .k) × (f .k ≤ most)
-  bounds kind most e =
-      let a = and-parts (eqb (f .kind) kind && leb 2 (f .k)) (leb (f .k) most) e in
-      let b = and-parts (eqb (f .kind) kind) (leb 2 (f .k)) (a .0) in
-      (eqb-true _ _ (b .0), leb-true _ _ (b .1), leb-true _ _ (a .1))
-
-  -- fixed, or floating
-  kinds : ((f .kind ≡ 1) × (2 ≤ f .k) × (f .k ≤ 31)) ⊎ ((f .kind ≡ 2) × (2 ≤ f .k) × (f .k ≤ 32))
-  unfolding known
-  kinds = go (or-parts _ _ h)
-    where
-      go : ((isFixed f && leb 2 (f .k) && leb (f .k) 31) ≡ true) ⊎ ((isFloating f && leb 2 (f .k) && leb (f .k) 32) ≡ true)
-          → ((f .kind ≡ 1) × (2 ≤ f .k) × (f .k ≤ 31)) ⊎ ((f .kind ≡ 2) × (2 ≤ f .k) × (f .k ≤ 32))
-      go (inl e) = inl (bounds 1 31 e)
-      go (inr e) = inr (bounds 2 32 e)
-
   pub known-k : (2 ≤ f .k) × (f .k ≤ 32)
-  known-k = go kinds
-    where
-      go : ((f .kind ≡ 1) × (2 ≤ f .k) × (f .k ≤ 31)) ⊎ ((f .kind ≡ 2) × (2 ≤ f .k) × (f .k ≤ 32)) → (2 ≤ f .k) × (f .k ≤ 32)
-      go (inl w) = omega arith
-      go (inr w) = omega arith
+  known-k = fit-k f (known-fits f h)
 
   pub fixed-k : f .kind ≡ 1 → f .k ≤ 31
-  fixed-k e = go kinds
-    where
-      go : ((f .kind ≡ 1) × (2 ≤ f .k) × (f .k ≤ 31)) ⊎ ((f .kind ≡ 2) × (2 ≤ f .k) × (f .k ≤ 32)) → f .k ≤ 31
-      go (inl w) = omega arith
-      go (inr w) = omega arith
+  fixed-k = fixed-fit f (known-fits f h)
 
 -- ---- widths and parts
 

@@ -8,12 +8,13 @@ use native.Mathlib.Decide.{ℕ-discrete, decLe}
 use native.Mathlib.Nat.{div-one, div-add-mod', mod-lt, mod-eq-of-lt, div-lt-iff-lt-mul}
 use lib.Dec.{leb, eqb}
 use lib.Pow.{pow-pos, pow-add, shr-shr}
-use borrow.Author.Tests.{le-leb, lt-leb, ne-eqb}
+use borrow.Author.Tests.{le-leb, lt-leb, leb-false, ne-eqb}
 use Rattle.convergents.specs.Choice.{if_then_else_}
 use Rattle.convergents.specs.Pairs.{pair}
+use Rattle.slash.specs.Answers.{done}
 use Rattle.slash.specs.Bits.{bitCount, bits, bit, bitOf, fields}
 use Rattle.slash.specs.Formats.{known, slashBits, widthOf}
-use Rattle.slash.specs.Words.{fixedValue, fixedNumber, slashPosition, floatingFraction, floatingSpecial, floatingNumber, numberOf, isAbove, wordStop, fixedWord, floatingWord, floatingPair, pairWord}
+use Rattle.slash.specs.Words.{fixedValue, fixedNumber, slashPosition, floatingFraction, floatingSpecial, floatingNumber, numberOf, isAbove, checkWord, fixedWord, floatingWord, floatingPair, pairWord}
 use Rattle.slash.specs.Canonical.{HeldParts}
 use Rattle.slash.specs.declared.format.Format.{Format}
 use Rattle.slash.specs.declared.number.Parts.{Parts}
@@ -22,7 +23,7 @@ use Rattle.slash.specs.declared.number.Value.the-variants.{Fraction, Zer
 use Rattle.slash.specs.declared.number.Number.{Number}
 use Rattle.slash.proofs.BitLaws.{pow-next, bits-lt, bit-count-is, bit-count-le}
 use Rattle.slash.proofs.FormatLaws.{known-k, width-fixed, width-floating, holds-both, holds-floating}
-use Rattle.slash.proofs.WordLaws.{fixed-zero, fixed-nan-zero, fixed-infinity, fixed-nan-infinity, fixed-fraction, floating-zero, floating-fraction, special-infinity, special-nan, number-fixed, number-floating, stop-above}
+use Rattle.slash.proofs.WordLaws.{fixed-zero, fixed-nan-zero, fixed-infinity, fixed-nan-infinity, fixed-fraction, floating-zero, floating-fraction, special-infinity, special-nan, number-fixed, number-floating, checked-below}
 use Rattle.slash.proofs.RoundTrip.{word-fixed, word-floating}
 
 -- a word of no more bits than its fields is its fields
@@ -98,11 +99,11 @@ module _ (k : ℕ) (s : Bool) (e f : ℕ) (p : Parts)
   floating-some = go (ℕ-discrete (f / 2 ^ e) 0)
     where
       go : Dec (f / 2 ^ e ≡ 0) → 1 ≤ f / 2 ^ e
-      go (yes z) = absurd (not-fraction (floating-zero s e f _ refl z ∙ floating-is) (inl refl))
+      go (yes z) = absurd (not-fraction (floating-zero s e f z ∙ floating-is) (inl refl))
       go (no z) = omega arith
 
   floating-parts-are : Fraction (record { negative = s; numerator = f / 2 ^ e; denominator = f % 2 ^ e + 2 ^ e }) ≡ Fraction p
-  floating-parts-are = floating-fraction s e f _ refl (λ z. omega (arith, floating-some)) ∙ floating-is
+  floating-parts-are = floating-fraction s e f (λ z. omega (arith, floating-some)) ∙ floating-is
 
 -- the numerator and the denominator at slash position e of a field f
 module _ (k e f : ℕ) (l : e ≤ k - 2) (hk : 2 ≤ k) (hf : f < 2 ^ (k - 1)) where
@@ -121,15 +122,11 @@ module _ (k e f : ℕ) (l : e ≤ k - 2) (hk : 2 ≤ k) (hf : f < 2 ^ (k - 1)) w
 
 -- ---- either
 
-module _ (f : Format) (w : ℕ) (h : known f ≡ true) (c : wordStop f w ≡ 0) (p : Parts) where
+module _ (f : Format) (w : ℕ) (h : known f ≡ true) (c : checkWord f w ≡ done tt) (p : Parts) where
   -- it is below its width
   clear-below : w < 2 ^ widthOf f
   unfolding isAbove
-  clear-below = go (decLe (2 ^ widthOf f) w)
-    where
-      go : Dec (2 ^ widthOf f ≤ w) → w < 2 ^ widthOf f
-      go (yes l) = absurd (omega (arith, stop-above f w (le-leb _ _ l)))
-      go (no l) = omega arith
+  clear-below = leb-false _ _ (checked-below f w c)
 
   -- What a word says as a fraction is held, and its parts make that word.
   pub record Fractional : Type 0 where

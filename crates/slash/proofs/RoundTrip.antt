@@ -8,19 +8,18 @@ use native.Mathlib.Nat.{zero-mul}
 use lib.Arith.{digits-div, digits-mod}
 use lib.Pow.{pow-pos, pow-mono}
 use borrow.Author.Tests.{le-leb, lt-leb, eq-eqb, ne-eqb}
-use Rattle.convergents.specs.Pairs.{Pair, pair}
+use Rattle.convergents.specs.Pairs.{pair}
 use Rattle.convergents.specs.Rounding.{held}
-use Rattle.slash.specs.Answers.{Outcome, done}
+use Rattle.slash.specs.Answers.{done}
 use Rattle.slash.specs.Bits.{bitCount, bits, bit, bitOf, fields}
 use Rattle.slash.specs.Formats.{known, slashBits, widthOf, holds}
-use Rattle.slash.specs.Words.{fixedValue, fixedNumber, slashPosition, slashUndefined, floatingFraction, floatingSpecial, floatingNumber, numberOf, isAbove, wordStop, readWord, fixedWord, floatingWord, floatingPair, floatingNan, pairWord, nanWord, valueOf, pairOf}
+use Rattle.slash.specs.Words.{fixedValue, fixedNumber, slashPosition, slashUndefined, floatingFraction, floatingSpecial, floatingNumber, numberOf, isAbove, checkWord, readWord, fixedWord, floatingWord, floatingPair, floatingNan, pairWord, nanWord, valueOf, pairOf}
 use Rattle.slash.specs.declared.format.Format.{Format}
-use Rattle.slash.specs.declared.number.Value.{Value}
 use Rattle.slash.specs.declared.number.Value.the-variants.{Fraction, Zero, Infinity, NotANumber}
 use Rattle.slash.specs.declared.number.Number.{Number}
 use Rattle.slash.proofs.BitLaws.{bit-lt, bit-back, bit-count-pos, bit-count-lt, bit-count-top, pow-next, fields-z, fields-y, fields-x, fields-s, fields-lt}
 use Rattle.slash.proofs.FormatLaws.{known-k, fixed-parts, floating-parts, slash-bits-enough, slash-bits-pos, width-fixed, width-floating}
-use Rattle.slash.proofs.WordLaws.{fixed-zero, fixed-nan-zero, fixed-infinity, fixed-fraction, floating-zero, floating-fraction, special-infinity, special-nan, undefined-below, pair-field, pair-slash, stop-fixed, stop-none, number-fixed, number-floating, read-done}
+use Rattle.slash.proofs.WordLaws.{fixed-zero, fixed-nan-zero, fixed-infinity, fixed-fraction, floating-zero, floating-fraction, special-infinity, special-nan, undefined-below, pair-field, pair-slash, check-fixed, check-floating, number-fixed, number-floating, checked-read}
 
 -- ---- the value of a pair
 
@@ -92,9 +91,9 @@ module _ (s : Bool) (n d : ℕ) where
           omega (arith, digits-mod n low, bit-count-top d pos)
 
       go : Dec (n ≡ 0) → floatingFraction s (bitCount d - 1) f ≡ valueOf s (pair n d)
-      go (yes e) = sym (floating-zero s (bitCount d - 1) f p refl (quotient ∙ e)) ∙ value-zero z e
+      go (yes e) = sym (floating-zero s (bitCount d - 1) f (quotient ∙ e)) ∙ value-zero z e
       go (no g) =
-          sym (floating-fraction s (bitCount d - 1) f p refl (λ e. g (sym quotient ∙ e)))
+          sym (floating-fraction s (bitCount d - 1) f (λ e. g (sym quotient ∙ e)))
           ∙ rw (quotient, denominator) (value-fraction z g)
 
 -- ---- words within the width
@@ -172,22 +171,22 @@ module _ (k : ℕ) (s a : Bool) (e f : ℕ) (hk : 2 ≤ k) (he : e < 2 ^ slashBi
 
 -- ---- what is within the width, and at a defined slash position, earns no stop
 
-module _ (f : Format) (w : ℕ) where
-  fixed-clear : f .kind ≡ 1 → w < 2 ^ (2 * f .k + 2) → wordStop f w ≡ 0
-  fixed-clear e l = sym (stop-fixed f w (below (widthOf f) w (subst (λ (j : ℕ). w < 2 ^ j) (width-fixed f e) l)) e)
+module _ (f : Format) (w : ℕ) (h : known f ≡ true) where
+  fixed-clear : f .kind ≡ 1 → w < 2 ^ (2 * f .k + 2) → checkWord f w ≡ done tt
+  fixed-clear e l = sym (check-fixed f w h (below (widthOf f) w (subst (λ (j : ℕ). w < 2 ^ j) (width-fixed f e) l)) e)
 
-  floating-clear : (f .kind ≡ 1 → ⊥) → w < 2 ^ (f .k + slashBits (f .k) + 1) → slashUndefined (f .k) w ≡ false → wordStop f w ≡ 0
+  floating-clear : (f .kind ≡ 1 → ⊥) → w < 2 ^ (f .k + slashBits (f .k) + 1) → slashUndefined (f .k) w ≡ false → checkWord f w ≡ done tt
   floating-clear n l u =
-      sym (stop-none f w (below (widthOf f) w (subst (λ (j : ℕ). w < 2 ^ j) (width-floating f n _ refl) l)) n u)
+      sym (check-floating f w h (below (widthOf f) w (subst (λ (j : ℕ). w < 2 ^ j) (width-floating f n _ refl) l)) n u)
 
 -- a word earns no stop, and says x
 pub record Says (f : Format) (w : ℕ) (x : Number) : Type 0 where
-  pub clear : wordStop f w ≡ 0
+  pub clear : checkWord f w ≡ done tt
   pub number : numberOf f w ≡ x
 
 -- so it is read as x
-pub says-read : {f : Format} {w : ℕ} {x : Number} → known f ≡ true → Says f w x → readWord f w ≡ done x
-says-read {f} {w} {x} h r = sym (read-done f w h 0 (sym (r .clear)) refl x (sym (r .number)))
+pub says-read : {f : Format} {w : ℕ} {x : Number} → Says f w x → readWord f w ≡ done x
+says-read {f} {w} {x} r = checked-read f w (r .clear) ∙ ap done (r .number)
 
 -- ---- the word of a pair
 
@@ -209,7 +208,7 @@ module _ (f : Format) (s a : Bool) (n d : ℕ) where
         let w : ℕ = fixedWord (f .k) (bitOf s) n (bitOf a) d in
         let b = fixed-parts f n d h l e in
         record {
-          clear = fixed-clear f w e (fixed-below (f .k) s a n d (b .0) (b .1));
+          clear = fixed-clear f w h e (fixed-below (f .k) s a n d (b .0) (b .1));
           number = sym (number-fixed f w e) ∙ fixed-back (f .k) s a n d (b .0) (b .1) ∙ rw (fixed-value s n d p) refl;
         }
 
@@ -223,7 +222,7 @@ module _ (f : Format) (s a : Bool) (n d : ℕ) where
         rw (eq-eqb _ _ z)
         (record {
           clear =
-              floating-clear f w e (floating-below k s a _ 0 hk b (pow-pos (k - 1)))
+              floating-clear f w h e (floating-below k s a _ 0 hk b (pow-pos (k - 1)))
               (special-defined k s a _ 0 hk b (pow-pos (k - 1)) refl);
           number =
               sym (number-floating f w e) ∙ special-back k s a _ 0 hk b (pow-pos (k - 1)) refl
@@ -245,7 +244,7 @@ module _ (f : Format) (s a : Bool) (n d : ℕ) where
         let w : ℕ = floatingWord k (bitOf s) (bitOf a) E F in
         rw (ne-eqb _ _ z)
         (record {
-          clear = floating-clear f w e (floating-below k s a E F hk he hf) (fraction-defined k s a E F hk he hf g);
+          clear = floating-clear f w h e (floating-below k s a E F hk he hf) (fraction-defined k s a E F hk he hf g);
           number = sym (number-floating f w e) ∙ fraction-back k s a E F hk he hf g ∙ rw (floating-value s n d z) refl;
         })
 
@@ -279,7 +278,7 @@ module _ (f : Format) where
         let b = pow-pos (f .k) in
         subst (λ (w : ℕ). Nan w) z
         (record {
-          clear = fixed-clear f (fixedWord (f .k) 0 0 0 0) e (fixed-below (f .k) false false 0 0 b b);
+          clear = fixed-clear f (fixedWord (f .k) 0 0 0 0) h e (fixed-below (f .k) false false 0 0 b b);
           number =
               sym (number-fixed f (fixedWord (f .k) 0 0 0 0) e) ∙ fixed-back (f .k) false false 0 0 b b
               ∙ rw (← fixed-nan-zero false 0 0 refl (λ q. omega arith)) refl;
@@ -295,7 +294,7 @@ module _ (f : Format) where
         let c : 1 < 2 ^ (k - 1) = omega (arith, pow-mono i) in
         let w : ℕ = floatingWord k 0 0 (2 ^ slashBits k - 1) 1 in
         record {
-          clear = floating-clear f w e (floating-below k false false _ 1 hk b c) (special-defined k false false _ 1 hk b c refl);
+          clear = floating-clear f w h e (floating-below k false false _ 1 hk b c) (special-defined k false false _ 1 hk b c refl);
           number =
               sym (number-floating f w e) ∙ special-back k false false _ 1 hk b c refl
               ∙ rw (← special-nan false 1 (λ q. omega arith)) refl;

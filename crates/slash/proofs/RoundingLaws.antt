@@ -7,7 +7,7 @@ use Rattle.convergents.specs.Pairs.{Pair, pair, differs}
 use Rattle.convergents.specs.Rounding.{round}
 use Rattle.convergents.specs.Best.{Best}
 use Rattle.convergents.proofs.Loop.{Rounds}
-use Rattle.slash.specs.Answers.{Outcome, stop, done, WhenDone}
+use Rattle.slash.specs.Answers.{stop, done}
 use Rattle.slash.specs.Formats.{known, holds}
 use Rattle.slash.specs.Rounding.{rounded, roundRatio}
 use Rattle.slash.specs.declared.format.Format.{Format}

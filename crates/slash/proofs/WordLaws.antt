@@ -3,21 +3,25 @@ use mathlib.Core.Path.{_≡_, refl, sym, ap, _∙_}
 use mathlib.Core.Bool.{Bool, true, false, _&&_}
 use Prim.Native.Nat.{ℕ, _+_, _-_, _*_, _/_, _%_, _^_, _≤_, _<_}
 use native.Mathlib.Omega.{arith}
-use native.Mathlib.Nat.{mod-lt, div-one, le-div-iff-mul-le, div-lt-iff-lt-mul}
+use native.Mathlib.Nat.{le-div-iff-mul-le, div-lt-iff-lt-mul, div-add-mod', mod-eq-of-lt}
 use lib.Dec.{leb}
 use lib.Arith.{digits-lt}
 use lib.Pow.{pow-pos, pow-mono, pow-add}
 use borrow.Author.Tests.{le-leb, lt-leb, leb-true, leb-false, eq-eqb, ne-eqb}
-use Rattle.slash.specs.Answers.{Outcome, stop, done}
+use Rattle.slash.specs.Answers.{Outcome, stop, done, _then_, checkOutcome}
 use Rattle.slash.specs.Bits.{bitCount, bits, bit, fields}
-use Rattle.slash.specs.Formats.{known, slashBits, widthOf}
-use Rattle.slash.specs.Words.{fixedValue, fixedNumber, slashPosition, slashUndefined, floatingFraction, floatingSpecial, floatingNumber, numberOf, isAbove, wordStop, readWord, fixedWord, floatingWord, floatingPair}
+use Rattle.slash.specs.Formats.{kFits, known, slashBits, widthOf}
+use Rattle.slash.specs.Words.{fixedValue, fixedNumber, slashPosition, slashUndefined, floatingFraction, floatingSpecial, floatingNumber, numberOf, isAbove, checkWord, readWord, numberIn, fixedWord, floatingWord, floatingPair}
+use Rattle.slash.specs.declared.answer.Stop.{Stop}
 use Rattle.slash.specs.declared.format.Format.{Format}
 use Rattle.slash.specs.declared.number.Value.{Value}
 use Rattle.slash.specs.declared.number.Value.the-variants.{Fraction, Zero, Infinity, NotANumber}
 use Rattle.slash.specs.declared.number.Number.{Number}
-use Rattle.slash.proofs.BitLaws.{pow-next, bits-lt, bit-count-lt, bit-count-pos, bit-count-top}
-use Rattle.slash.proofs.FormatLaws.{slash-bits-enough}
+use Rattle.slash.specs.declared.reading.Checked.{Checked}
+use Rattle.slash.specs.declared.reading.Checked.the-variants as Checked
+use Rattle.slash.proofs.AnswerLaws.{no-stop, then-stop}
+use Rattle.slash.proofs.BitLaws.{pow-next, bit-count-lt, bit-count-pos, bit-count-top}
+use Rattle.slash.proofs.FormatLaws.{known-fits, slash-bits-enough}
 
 -- ---- fixed words
 
@@ -42,10 +46,10 @@ module _ (s : Bool) (n d : ℕ) where
   unfolding fixedValue
   fixed-fraction h g = rw (ne-eqb _ _ h, ne-eqb _ _ g) refl
 
-pub fixed-number : (k w : ℕ) (s : Bool) (n d : ℕ) (v : Value) (a : Bool) → s ≡ bit (2 * k + 1) w → n ≡ bits (k + 1) k w → d ≡ bits 0 k w
-    → v ≡ fixedValue s n d → a ≡ bit k w → record { value = v; approximate = a } ≡ fixedNumber k w
+pub fixed-number : (k w : ℕ) (s : Bool) (n d : ℕ) (v : Value) → s ≡ bit (2 * k + 1) w → n ≡ bits (k + 1) k w → d ≡ bits 0 k w
+    → v ≡ fixedValue s n d → v ≡ fixedNumber k w .value
 unfolding fixedNumber
-fixed-number k w s n d v a se ne de ve ae = rw (ve, se, ne, de, ae) refl
+fixed-number k w s n d v se ne de ve = rw (ve, se, ne, de) refl
 
 pub fixed-word : (k s t n a b d r : ℕ) → t ≡ s → b ≡ a → r ≡ fields t n k b 1 d k → r ≡ fixedWord k s n a d
 unfolding fixedWord
@@ -66,27 +70,34 @@ module _ (k w e : ℕ) (h : e ≡ slashPosition k w) where
   unfolding slashUndefined
   undefined-below l = rw (← h, lt-leb _ _ l) refl
 
-module _ (s : Bool) (e f p : ℕ) (h : p ≡ 2 ^ e) where
-  pub floating-zero : f / p ≡ 0 → Zero s ≡ floatingFraction s e f
+module _ (s : Bool) (e f : ℕ) where
+  pub floating-zero : f / 2 ^ e ≡ 0 → Zero s ≡ floatingFraction s e f
   unfolding floatingFraction
-  floating-zero g = rw (← h, eq-eqb _ _ g) refl
+  floating-zero g = rw (eq-eqb _ _ g) refl
 
-  pub floating-fraction : (f / p ≡ 0 → ⊥) → Fraction (record { negative = s; numerator = f / p; denominator = f % p + p }) ≡ floatingFraction s e f
+  pub floating-fraction : (f / 2 ^ e ≡ 0 → ⊥) → Fraction (record { negative = s; numerator = f / 2 ^ e; denominator = f % 2 ^ e + 2 ^ e }) ≡ floatingFraction s e f
   unfolding floatingFraction
-  floating-fraction g = rw (← h, ne-eqb _ _ g) refl
+  floating-fraction g = rw (ne-eqb _ _ g) refl
 
-  -- the code has m, f's last e bits
-  module _ (m : ℕ) (me : m ≡ bits 0 e f) where
-    rest-is : m ≡ f % 2 ^ e
-    unfolding bits
-    rest-is = me ∙ ap (λ (n : ℕ). n % 2 ^ e) (div-one f)
+  -- the code takes all of f but n - 1 times 2^e away, n the numerator
+  module _ (g : f / 2 ^ e ≡ 0 → ⊥) where
+    whole : f ≡ (f / 2 ^ e - 1) * 2 ^ e + 2 ^ e + f % 2 ^ e
+    whole =
+        let i : f / 2 ^ e ≡ f / 2 ^ e - 1 + 1 = omega arith in
+        omega (arith, div-add-mod' f (2 ^ e), ap (λ (n : ℕ). n * 2 ^ e) i)
 
-    pub parted-fraction : (f / 2 ^ e ≡ 0 → ⊥) → Fraction (record { negative = s; numerator = f / 2 ^ e; denominator = m + p }) ≡ floatingFraction s e f
-    unfolding floatingFraction
-    parted-fraction g = rw (rest-is, h, ne-eqb _ _ g) refl
+    module _ (l : f < 2 ^ 31) where
+      shifted : (f / 2 ^ e - 1) * 2 ^ e % 2 ^ 64 ≡ (f / 2 ^ e - 1) * 2 ^ e
+      shifted = mod-eq-of-lt (omega (arith, whole))
 
-    pub parted-sum : e ≤ 30 → m + p < 2 ^ 64
-    parted-sum l = omega (arith, rest-is, h, mod-lt f (pow-pos e), pow-mono l)
+      pub parted-most : (f / 2 ^ e - 1) * 2 ^ e % 2 ^ 64 ≤ f
+      parted-most = omega (arith, whole, shifted)
+
+      pub parted-fraction : Fraction (record { negative = s; numerator = f / 2 ^ e; denominator = f - (f / 2 ^ e - 1) * 2 ^ e % 2 ^ 64 }) ≡ floatingFraction s e f
+      unfolding floatingFraction
+      parted-fraction =
+          let d : f - (f / 2 ^ e - 1) * 2 ^ e % 2 ^ 64 ≡ f % 2 ^ e + 2 ^ e = omega (arith, whole, shifted) in
+          rw (d, ne-eqb _ _ g) refl
 
 module _ (s : Bool) (f : ℕ) where
   pub special-infinity : f % 2 ≡ 0 → Infinity s ≡ floatingSpecial s f
@@ -97,15 +108,19 @@ module _ (s : Bool) (f : ℕ) where
   unfolding floatingSpecial
   special-nan h = rw (ne-eqb _ _ h) refl
 
-module _ (k w l : ℕ) (s a : Bool) (e f : ℕ) (v : Value) (le : l ≡ slashBits k) (se : s ≡ bit (k + l) w) (ae : a ≡ bit (k + l - 1) w)
+module _ (k w l : ℕ) (s : Bool) (e f : ℕ) (v : Value) (le : l ≡ slashBits k) (se : s ≡ bit (k + l) w)
     (ee : e ≡ slashPosition k w) (fe : f ≡ bits 0 (k - 1) w) where
-  pub floating-number : e ≤ k - 2 → v ≡ floatingFraction s e f → record { value = v; approximate = a } ≡ floatingNumber k w
+  pub floating-number : e ≤ k - 2 → v ≡ floatingFraction s e f → v ≡ floatingNumber k w .value
   unfolding floatingNumber
-  floating-number h ve = rw (← le, ← se, ← ae, ← ee, ← fe, le-leb _ _ h, ve) refl
+  floating-number h ve = rw (← le, ← se, ← ee, ← fe, le-leb _ _ h, ve) refl
 
-  pub floating-special : k - 2 < e → v ≡ floatingSpecial s f → record { value = v; approximate = a } ≡ floatingNumber k w
+  pub floating-special : k - 2 < e → v ≡ floatingSpecial s f → v ≡ floatingNumber k w .value
   unfolding floatingNumber
-  floating-special h ve = rw (← le, ← se, ← ae, ← ee, ← fe, lt-leb _ _ h, ve) refl
+  floating-special h ve = rw (← le, ← se, ← ee, ← fe, lt-leb _ _ h, ve) refl
+
+pub floating-mark : (k w l : ℕ) (a : Bool) → l ≡ slashBits k → a ≡ bit (k + l - 1) w → a ≡ floatingNumber k w .approximate
+unfolding floatingNumber
+floating-mark k w l a le e = rw (← le, e) refl
 
 -- the special slash position fits
 pub special-lt : (k r : ℕ) → r ≡ 2 ^ slashBits k - 1 → r < 2 ^ slashBits k
@@ -194,24 +209,29 @@ above-is width w h = go (leb 2 (w / 2 ^ (width - 1))) refl
 pub above-case : (f : Format) (w width : ℕ) (b : Bool) {c : Bool} → width ≡ widthOf f → b ≡ isAbove width w → b ≡ c → isAbove (widthOf f) w ≡ c
 above-case f w width b e h g = ap (λ (j : ℕ). isAbove j w) (sym e) ∙ sym h ∙ g
 
--- the answers of `word_stop`
 module _ (f : Format) (w : ℕ) where
-  pub stop-above : isAbove (widthOf f) w ≡ true → 4 ≡ wordStop f w
-  unfolding wordStop
-  stop-above g = rw g refl
+  -- the answers of `check`
+  pub check-unknown : known f ≡ false → stop 1 0 ≡ checkWord f w
+  unfolding checkWord
+  check-unknown h = rw h refl
 
-  module _ (g : isAbove (widthOf f) w ≡ false) where
-    pub stop-fixed : f .kind ≡ 1 → 0 ≡ wordStop f w
-    unfolding wordStop
-    stop-fixed e = rw (g, eq-eqb _ _ e) refl
+  module _ (h : known f ≡ true) where
+    pub check-above : isAbove (widthOf f) w ≡ true → stop 4 0 ≡ checkWord f w
+    unfolding checkWord
+    check-above g = rw (h, g) refl
 
-    pub stop-undefined : (f .kind ≡ 1 → ⊥) → slashUndefined (f .k) w ≡ true → 5 ≡ wordStop f w
-    unfolding wordStop
-    stop-undefined n u = rw (g, ne-eqb _ _ n, u) refl
+    module _ (g : isAbove (widthOf f) w ≡ false) where
+      pub check-fixed : f .kind ≡ 1 → done tt ≡ checkWord f w
+      unfolding checkWord
+      check-fixed e = rw (h, g, eq-eqb _ _ e) refl
 
-    pub stop-none : (f .kind ≡ 1 → ⊥) → slashUndefined (f .k) w ≡ false → 0 ≡ wordStop f w
-    unfolding wordStop
-    stop-none n u = rw (g, ne-eqb _ _ n, u) refl
+      pub check-undefined : (f .kind ≡ 1 → ⊥) → slashUndefined (f .k) w ≡ true → stop 5 0 ≡ checkWord f w
+      unfolding checkWord
+      check-undefined n u = rw (h, g, ne-eqb _ _ n, u) refl
+
+      pub check-floating : (f .kind ≡ 1 → ⊥) → slashUndefined (f .k) w ≡ false → done tt ≡ checkWord f w
+      unfolding checkWord
+      check-floating n u = rw (h, g, ne-eqb _ _ n, u) refl
 
   pub number-fixed : f .kind ≡ 1 → fixedNumber (f .k) w ≡ numberOf f w
   unfolding numberOf
@@ -221,16 +241,66 @@ module _ (f : Format) (w : ℕ) where
   unfolding numberOf
   number-floating n = rw (ne-eqb _ _ n) refl
 
-  -- the answers of `read`
-  pub read-unknown : known f ≡ false → stop 1 0 ≡ readWord f w
+  -- what `value` and `is_approximate` go by
+  pub number-unfit : kFits f ≡ false → record { value = NotANumber; approximate = false } ≡ numberIn f w
+  unfolding numberIn
+  number-unfit h = rw h refl
+
+  number-fit : kFits f ≡ true → numberOf f w ≡ numberIn f w
+  unfolding numberIn
+  number-fit h = rw h refl
+
+  pub fixed-fits : kFits f ≡ true → f .kind ≡ 1 → fixedNumber (f .k) w ≡ numberIn f w
+  fixed-fits h e = number-fixed e ∙ number-fit h
+
+  pub floating-fits : kFits f ≡ true → (f .kind ≡ 1 → ⊥) → floatingNumber (f .k) w ≡ numberIn f w
+  floating-fits h n = number-floating n ∙ number-fit h
+
+  -- a word that is checked
+  module _ (c : checkWord f w ≡ done tt) where
+    pub checked-known : known f ≡ true
+    checked-known = go (known f) refl
+      where
+        go : (b : Bool) → known f ≡ b → known f ≡ true
+        go true h = h
+        go false h = absurd (no-stop (check-unknown h ∙ c))
+
+    -- it has no bit above its width
+    pub checked-below : isAbove (widthOf f) w ≡ false
+    checked-below = go (isAbove (widthOf f) w) refl
+      where
+        go : (b : Bool) → isAbove (widthOf f) w ≡ b → isAbove (widthOf f) w ≡ false
+        go false g = g
+        go true g = absurd (no-stop (check-above checked-known g ∙ c))
+
+    pub checked-number : numberIn f w ≡ numberOf f w
+    checked-number = sym (number-fit (known-fits f checked-known))
+
+    pub checked-read : readWord f w ≡ done (numberOf f w)
+    unfolding readWord
+    checked-read = rw c refl
+
+    pub checked-done : (v : Value) (a : Bool) → v ≡ numberIn f w .value → a ≡ numberIn f w .approximate
+        → done (record { value = v; approximate = a }) ≡ readWord f w
+    checked-done v a ve ae = rw (ve, ae) (ap done checked-number ∙ sym checked-read)
+
+  -- and one that was read was checked
+  pub read-checked : {x : Number} → readWord f w ≡ done x → checkWord f w ≡ done tt
   unfolding readWord
-  read-unknown h = rw h refl
+  read-checked {x} r = go (checkWord f w) refl
+    where
+      go : (o : Outcome (Unit {0})) → checkWord f w ≡ o → checkWord f w ≡ done tt
+      go (stop n p) e = absurd (no-stop (sym (ap (λ (q : Outcome (Unit {0})). q then λ _. done (numberOf f w)) e) ∙ r))
+      go (done u) e = e
 
-  module _ (h : known f ≡ true) (s : ℕ) (e : s ≡ wordStop f w) where
-    pub read-stop : (s ≡ 0 → ⊥) → stop s 0 ≡ readWord f w
-    unfolding readWord
-    read-stop n = rw (h, ← e, ne-eqb _ _ n) refl
+-- what `check` answered, by its case: the word is read so
+module _ (f : Format) (w : ℕ) {r : Checked} (h : checkOutcome r ≡ checkWord f w) where
+  pub check-stopped : {s : Stop} → r ≡ Checked.Stopped s → stop (s .number) (s .place) ≡ readWord f w
+  unfolding readWord
+  check-stopped e = then-stop (λ _. done (numberOf f w)) (sym (ap checkOutcome e) ∙ h)
 
-    pub read-done : s ≡ 0 → (x : Number) → x ≡ numberOf f w → done x ≡ readWord f w
-    unfolding readWord
-    read-done z x xe = rw (h, ← e, eq-eqb _ _ z, xe) refl
+  pub check-good : r ≡ Checked.Good → checkWord f w ≡ done tt
+  check-good e = sym h ∙ ap checkOutcome e
+
+  pub check-read : r ≡ Checked.Good → done (numberOf f w) ≡ readWord f w
+  check-read e = sym (checked-read f w (check-good e))

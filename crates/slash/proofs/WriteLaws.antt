@@ -1,20 +1,21 @@
 -- Laws of writing, one for each way through the code, and that what is written is the best pair. Assumes nothing.
 use mathlib.Core.Path.{_≡_, refl, sym, ap, _∙_, subst}
-use mathlib.Core.Bool.{Bool, true, false, _||_}
+use mathlib.Core.Bool.{Bool, true, false, _||_, or-false}
 use Prim.Native.Nat.{ℕ, _≤_, _∣_}
 use native.Mathlib.Omega.{arith}
 use native.Mathlib.Nat.{dvd-refl, dvd-zero, eq-one-of-dvd-one}
 use lib.Dec.{eqb}
-use borrow.Author.Tests.{eqb-false}
-use Rattle.convergents.specs.Pairs.{Pair, pair}
-use Rattle.convergents.specs.Rounding.{held}
+use borrow.Author.Tests.{eqb-false, eq-eqb, ne-eqb}
+use Rattle.convergents.specs.Pairs.{Pair, pair, differs}
+use Rattle.convergents.specs.Rounding.{round, held}
 use Rattle.convergents.specs.Best.{Best}
 use Rattle.convergents.proofs.Optimal.{held-is}
 use Rattle.convergents.proofs.Theorem.{round-best, round-lowest, round-held}
 use Rattle.slash.specs.Answers.{stop, done}
 use Rattle.slash.specs.Formats.{known, holds}
 use Rattle.slash.specs.Rounding.{rounded}
-use Rattle.slash.specs.Words.{numberOf, pairWord, nanWord, wordFor, isOverZero, writeNumber, pairOf, BestFor, BestWord}
+use Rattle.slash.specs.Steps.{partsWord}
+use Rattle.slash.specs.Words.{numberOf, pairWord, nanWord, wordFor, isOverZero, writeNumber, exactRatio, partsOf, pairOf, BestFor, BestWord}
 use Rattle.slash.specs.declared.format.Format.{Format}
 use Rattle.slash.specs.declared.number.Parts.{Parts}
 use Rattle.slash.specs.declared.number.Value.{Value}
@@ -22,7 +23,7 @@ use Rattle.slash.specs.declared.number.Value.the-variants.{Fraction, Zer
 use Rattle.slash.specs.declared.number.Number.{Number}
 use Rattle.slash.specs.declared.rounding.Rounded.{Rounded}
 use Rattle.slash.proofs.FormatLaws.{format-limit}
-use Rattle.slash.proofs.RoundTrip.{Proper, pair-value, Says, pair-says}
+use Rattle.slash.proofs.RoundTrip.{Proper, pair-value, pair-says}
 
 -- what is in lowest terms stands for a value
 pub lowest-proper : (n d : ℕ) → ((g : ℕ) → g ∣ n → g ∣ d → g ≡ 1) → Proper n d
@@ -38,11 +39,11 @@ module _ (f : Format) (h : known f ≡ true) where
       held-is (holds f) 0 1 (omega arith)
       ∙ format-limit f h .downward 1 1 0 1 (format-limit f h .one) (omega arith) (omega arith) (omega arith)
 
+  zero-rounded : round (holds f) 0 1 ≡ pair 0 1
+  zero-rounded = round-held (holds f) (format-limit f h) 0 1 (omega arith) zero-held (λ g i j. eq-one-of-dvd-one j)
+
   zero-best : Best (holds f) 0 1 (pair 0 1)
-  zero-best =
-      subst (λ (x : Pair). Best (holds f) 0 1 x)
-      (round-held (holds f) (format-limit f h) 0 1 (omega arith) zero-held (λ g i j. eq-one-of-dvd-one j))
-      (round-best (holds f) (format-limit f h) 0 1 (omega arith))
+  zero-best = subst (λ (x : Pair). Best (holds f) 0 1 x) zero-rounded (round-best (holds f) (format-limit f h) 0 1 (omega arith))
 
   -- the pair of the word of a pair
   module _ (s a : Bool) (n d w : ℕ) (l : held (holds f) (pair n d) ≡ true) (p : Proper n d) (e : w ≡ pairWord f s a (pair n d)) where
@@ -56,56 +57,48 @@ module _ (f : Format) (h : known f ≡ true) where
     unfolding BestFor
     best-back N D b = subst (λ (x : Pair). Best (holds f) N D x) (sym pair-back) b
 
-  module _ (a : Bool) where
-    -- a fraction: the pair and the mark that rounding gives, put in a word
-    module _ (p : Parts) (r : Rounded) (re : r ≡ rounded f (p .numerator) (p .denominator))
-        (b : Best (holds f) (p .numerator) (p .denominator) (pair (r .numerator) (r .denominator)))
-        (m : Bool) (me : m ≡ (a || r .approximate)) (w : ℕ) (we : w ≡ pairWord f (p .negative) m (pair (r .numerator) (r .denominator))) where
-      fraction-word : w ≡ wordFor f a (Fraction p)
-      unfolding wordFor rounded
-      fraction-word = rw (we, me, re) refl
-
-      fraction-best : BestWord f (Fraction p) w
-      unfolding BestWord rounded
-      fraction-best =
-          let N : ℕ = p .numerator in
-          let D : ℕ = p .denominator in
-          let low = round-lowest (holds f) (format-limit f h) N D in
-          let proper : Proper (r .numerator) (r .denominator) = rw re (lowest-proper _ _ low) in
-          best-back (p .negative) m (r .numerator) (r .denominator) w (b .isHeld) proper we N D b
-
-      pub word-rounded : (w ≡ wordFor f a (Fraction p)) × BestWord f (Fraction p) w
-      word-rounded = (fraction-word, fraction-best)
-
-    pub word-zero : (s : Bool) (w : ℕ) → w ≡ pairWord f s a (pair 0 1) → (w ≡ wordFor f a (Zero s)) × BestWord f (Zero s) w
-    unfolding wordFor BestWord
-    word-zero s w e = (
-      e,
-      best-back s a 0 1 w zero-held (record { zero-is = λ q. refl; infinity-is = λ q. absurd (omega arith) }) e 0 1 zero-best,
-    )
-
-    pub word-infinity : (s : Bool) (w : ℕ) → w ≡ pairWord f s a (pair 1 0) → (w ≡ wordFor f a (Infinity s)) × BestWord f (Infinity s) w
-    unfolding wordFor BestWord
-    word-infinity s w e = (e, tt)
-
-    pub word-nan : (w : ℕ) → w ≡ nanWord f → (w ≡ wordFor f a NotANumber) × BestWord f NotANumber w
-    unfolding wordFor BestWord
-    word-nan w e = (e, tt)
-
-  -- the word of v, where the code has v as u
-  pub word-case : (a : Bool) (u v : Value) (w : ℕ) → u ≡ v → (w ≡ wordFor f a v) × BestWord f v w → (w ≡ wordFor f a u) × BestWord f u w
-  word-case a u v w e r = subst (λ (x : Value). (w ≡ wordFor f a x) × BestWord f x w) (sym e) r
-
   -- Demand 3, of every word that a value is written as.
   pub word-best : (a : Bool) (v : Value) → isOverZero v ≡ false → BestWord f v (wordFor f a v)
-  unfolding wordFor rounded isOverZero
+  unfolding BestWord wordFor isOverZero
   word-best a (Fraction p) z =
-      let n : p .denominator ≡ 0 → ⊥ = eqb-false _ _ z in
-      let some : 1 ≤ p .denominator = omega arith in
-      word-rounded a p (rounded f (p .numerator) (p .denominator)) refl (round-best (holds f) (format-limit f h) (p .numerator) (p .denominator) some) _ refl _ refl .1
-  word-best a (Zero s) z = word-zero a s _ refl .1
-  word-best a (Infinity s) z = word-infinity a s _ refl .1
-  word-best a NotANumber z = word-nan a _ refl .1
+      let N : ℕ = p .numerator in
+      let D : ℕ = p .denominator in
+      let n : D ≡ 0 → ⊥ = eqb-false _ _ z in
+      let b = round-best (holds f) (format-limit f h) N D (omega arith) in
+      best-back (p .negative) _ _ _ _ (b .isHeld) (lowest-proper _ _ (round-lowest (holds f) (format-limit f h) N D)) refl N D b
+  word-best a (Zero s) z =
+      best-back s a 0 1 _ zero-held (record { zero-is = λ q. refl; infinity-is = λ q. absurd (omega arith) }) refl 0 1 zero-best
+  word-best a (Infinity s) z = tt
+  word-best a NotANumber z = tt
+
+-- ---- the word of some parts
+
+module _ (f : Format) (s a : Bool) (n d w : ℕ) where
+  pub parts-nan : d ≡ 0 → n ≡ 0 → w ≡ nanWord f → w ≡ partsWord f s a n d
+  unfolding partsWord
+  parts-nan z y e = rw (eq-eqb _ _ z, eq-eqb _ _ y) e
+
+  pub parts-infinity : d ≡ 0 → (n ≡ 0 → ⊥) → w ≡ pairWord f s a (pair 1 0) → w ≡ partsWord f s a n d
+  unfolding partsWord
+  parts-infinity z y e = rw (eq-eqb _ _ z, ne-eqb _ _ y) e
+
+  pub parts-some : (d ≡ 0 → ⊥) → partsWord f s a n d ≡ wordFor f a (Fraction (record { negative = s; numerator = n; denominator = d }))
+  unfolding partsWord
+  parts-some z = rw (ne-eqb _ _ z) refl
+
+  pub parts-rounded : (d ≡ 0 → ⊥) → (r : Rounded) → r ≡ rounded f n d → (m : Bool) → m ≡ (a || r .approximate)
+      → w ≡ pairWord f s m (pair (r .numerator) (r .denominator)) → w ≡ partsWord f s a n d
+  unfolding wordFor rounded
+  parts-rounded z r re m me we = rw (we, me, re) (sym (parts-some z))
+
+-- every value is written by its parts
+pub parts-value : (f : Format) (a : Bool) (v : Value) → known f ≡ true → isOverZero v ≡ false
+    → partsWord f (partsOf v .negative) a (partsOf v .numerator) (partsOf v .denominator) ≡ wordFor f a v
+unfolding partsWord isOverZero wordFor differs
+parts-value f a (Fraction p) h z = parts-some f (p .negative) a (p .numerator) (p .denominator) 0 (eqb-false _ _ z)
+parts-value f a (Zero s) h z = rw (zero-rounded f h) (ap (λ (m : Bool). pairWord f s m (pair 0 1)) (or-false a))
+parts-value f a (Infinity s) h z = refl
+parts-value f a NotANumber h z = refl
 
 -- ---- fractions over 0
 
@@ -144,3 +137,22 @@ module _ (f : Format) (x : Number) where
   pub write-done : known f ≡ true → isOverZero (x .value) ≡ false → done (wordFor f (x .approximate) (x .value)) ≡ writeNumber f x
   unfolding writeNumber
   write-done h z = rw (h, z) refl
+
+  -- and its word, demand 3 with it
+  pub write-word : known f ≡ true → isOverZero (x .value) ≡ false → (w : ℕ) → w ≡ wordFor f (x .approximate) (x .value)
+      → (done w ≡ writeNumber f x) × BestWord f (x .value) w
+  write-word h z w e = (
+    ap done e ∙ write-done h z,
+    subst (λ (v : ℕ). BestWord f (x .value) v) (sym e) (word-best f h (x .approximate) (x .value) z),
+  )
+
+-- the answers of `round_word`
+module _ (f : Format) (N D : ℕ) where
+  pub ratio-over-zero : known f ≡ true → D ≡ 0 → stop 6 0 ≡ writeNumber f (exactRatio N D)
+  unfolding isOverZero
+  ratio-over-zero h e = write-over-zero f (exactRatio N D) h (eq-eqb _ _ e)
+
+  pub ratio-word : known f ≡ true → (D ≡ 0 → ⊥) → (w : ℕ) → w ≡ partsWord f false false N D
+      → (done w ≡ writeNumber f (exactRatio N D)) × BestFor f N D w
+  unfolding isOverZero BestWord
+  ratio-word h n w e = write-word f (exactRatio N D) h (ne-eqb _ _ n) w (e ∙ parts-some f false false N D 0 n)

@@ -1,15 +1,16 @@
 -- What a call comes to, in the paper's terms. Each answer of the library is an enum with two cases, Done and Stopped; here is what each of
 -- its cases says.
 use Prim.Native.Nat.{ℕ}
-use Rattle.slash.specs.declared.answer.Stop.{Stop}
 use Rattle.slash.specs.declared.answer.Answer.{Answer}
 use Rattle.slash.specs.declared.answer.Answer.the-variants as Answer
 use Rattle.slash.specs.declared.format.Format.{Format}
 use Rattle.slash.specs.declared.format.Made.{Made}
 use Rattle.slash.specs.declared.format.Made.the-variants as Made
 use Rattle.slash.specs.declared.number.Number.{Number}
-use Rattle.slash.specs.declared.word.Reading.{Reading}
-use Rattle.slash.specs.declared.word.Reading.the-variants as Reading
+use Rattle.slash.specs.declared.reading.Checked.{Checked}
+use Rattle.slash.specs.declared.reading.Checked.the-variants as Checked
+use Rattle.slash.specs.declared.reading.Reading.{Reading}
+use Rattle.slash.specs.declared.reading.Reading.the-variants as Reading
 use Rattle.slash.specs.declared.rounding.Rounded.{Rounded}
 use Rattle.slash.specs.declared.rounding.Rounding.{Rounding}
 use Rattle.slash.specs.declared.rounding.Rounding.the-variants as Rounding
@@ -38,6 +39,10 @@ outcome (Answer.Stopped s) = stop (s .number) (s .place)
 abbrev pub madeOutcome : Made → Outcome Format
 madeOutcome (Made.Done f) = done f
 madeOutcome (Made.Stopped s) = stop (s .number) (s .place)
+
+abbrev pub checkOutcome : Checked → Outcome (Unit {0})
+checkOutcome Checked.Good = done tt
+checkOutcome (Checked.Stopped s) = stop (s .number) (s .place)
 
 abbrev pub readingOutcome : Reading → Outcome Number
 readingOutcome (Reading.Done x) = done x

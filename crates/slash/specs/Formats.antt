@@ -15,12 +15,18 @@ abbrev pub isFloating : Format → Bool
 isFloating f = eqb (f .kind) 2
 
 -- k runs from 2 to 31 in fixed formats, and from 2 to 32 in floating ones.
+unfoldable pub kFits : Format → Bool
+kFits f = leb 2 (f .k) && leb (f .k) (if isFixed f then 31 else 32)
+
 unfoldable pub known : Format → Bool
-known f = (isFixed f && leb 2 (f .k) && leb (f .k) 31) || (isFloating f && leb 2 (f .k) && leb (f .k) 32)
+known f = (isFixed f || isFloating f) && kFits f
 
 -- Stop 1 for an unknown kind or k, before anything else.
+abbrev pub whenKnown : {A : Type 0} → Format → Outcome A → Outcome A
+whenKnown f next = if known f then next else stop 1 0
+
 unfoldable pub ofKnown : {A : Type 0} → Format → A → Outcome A
-ofKnown f x = if known f then done x else stop 1 0
+ofKnown f x = whenKnown f (done x)
 
 unfoldable pub makeFormat : ℕ → ℕ → Outcome Format
 makeFormat kind k = let f : Format = record { kind = kind; k = k } in ofKnown f f

@@ -5,3 +5,5 @@ pub mod Formats
 pub mod Words
 pub mod Rounding
 pub mod Canonical
+pub mod Signed
+pub mod Steps

@@ -5,10 +5,9 @@ use Rattle.convergents.specs.Choice.{if_then_else_}
 use Rattle.convergents.specs.Pairs.{Pair, differs}
 use Rattle.convergents.specs.Rounding.{round}
 use Rattle.slash.specs.Answers.{Outcome, stop, done}
-use Rattle.slash.specs.Formats.{known, holds}
+use Rattle.slash.specs.Formats.{whenKnown, holds}
 use Rattle.slash.specs.declared.format.Format.{Format}
 use Rattle.slash.specs.declared.rounding.Rounded.{Rounded}
-use mathlib.Core.Bool.{not}
 
 -- The last convergent of N/D that the format holds, marked if its value isn't N/D.
 unfoldable pub rounded : Format → ℕ → ℕ → Rounded
@@ -19,6 +18,6 @@ rounded f N D =
 -- Stop 1, then 6 for denominator 0.
 unfoldable pub roundRatio : Format → ℕ → ℕ → Outcome Rounded
 roundRatio f N D =
-    if not (known f) then stop 1 0 else
+    whenKnown f (
     if eqb D 0 then stop 6 0 else
-    done (rounded f N D)
+    done (rounded f N D))

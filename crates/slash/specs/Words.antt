@@ -6,9 +6,9 @@ use Rattle.convergents.specs.Choice.{if_then_else_}
 use Rattle.convergents.specs.Pairs.{Pair, pair, differs}
 use Rattle.convergents.specs.Rounding.{round}
 use Rattle.convergents.specs.Best.{Best}
-use Rattle.slash.specs.Answers.{Outcome, stop, done}
+use Rattle.slash.specs.Answers.{Outcome, stop, done, _then_}
 use Rattle.slash.specs.Bits.{bitCount, bits, bit, bitOf, fields}
-use Rattle.slash.specs.Formats.{isFixed, known, slashBits, widthOf, holds}
+use Rattle.slash.specs.Formats.{isFixed, kFits, whenKnown, slashBits, widthOf, holds}
 use Rattle.slash.specs.declared.format.Format.{Format}
 use Rattle.slash.specs.declared.number.Parts.{Parts}
 use Rattle.slash.specs.declared.number.Value.{Value}
@@ -58,7 +58,7 @@ floatingNumber k w =
       approximate = bit (k + slashBits k - 1) w;
     }
 
--- What a word says, where none of the checks stops it.
+-- What a word says, where no check stops it.
 unfoldable pub numberOf : Format → ℕ → Number
 numberOf f w = if isFixed f then fixedNumber (f .k) w else floatingNumber (f .k) w
 
@@ -66,19 +66,20 @@ numberOf f w = if isFixed f then fixedNumber (f .k) w else floatingNumber (f .k)
 unfoldable pub isAbove : (width w : ℕ) → Bool
 isAbove width w = leb (2 ^ width) w
 
--- The stop that a word earns: 4 for bits above the width, then 5 for an undefined slash position; 0 for none.
-unfoldable pub wordStop : Format → ℕ → ℕ
-wordStop f w =
-    if isAbove (widthOf f) w then 4 else
-    if not (isFixed f) && slashUndefined (f .k) w then 5 else
-    0
+-- The checks of a word: stop 1 for the format, then 4 for bits above the width, then 5 for an undefined slash position.
+unfoldable pub checkWord : Format → ℕ → Outcome (Unit {0})
+checkWord f w =
+    whenKnown f (
+    if isAbove (widthOf f) w then stop 4 0 else
+    if not (isFixed f) && slashUndefined (f .k) w then stop 5 0 else
+    done tt)
 
--- Stop 1 for the format, then the word's.
 unfoldable pub readWord : Format → ℕ → Outcome Number
-readWord f w =
-    if not (known f) then stop 1 0 else
-    if eqb (wordStop f w) 0 then done (numberOf f w) else
-    stop (wordStop f w) 0
+readWord f w = checkWord f w then λ _. done (numberOf f w)
+
+-- What a word that nobody has checked says by its bits; in a format whose k doesn't fit there are none to go by.
+unfoldable pub numberIn : Format → ℕ → Number
+numberIn f w = if kFits f then numberOf f w else record { value = NotANumber; approximate = false }
 
 -- ---- writing
 
@@ -130,9 +131,13 @@ isOverZero NotANumber = false
 -- Stop 1, then 6 as rounding has it.
 unfoldable pub writeNumber : Format → Number → Outcome ℕ
 writeNumber f x =
-    if not (known f) then stop 1 0 else
+    whenKnown f (
     if isOverZero (x .value) then stop 6 0 else
-    done (wordFor f (x .approximate) (x .value))
+    done (wordFor f (x .approximate) (x .value)))
+
+-- N/D as a number to be written: not negative, exact.
+abbrev pub exactRatio : (N D : ℕ) → Number
+exactRatio N D = record { value = Fraction (record { negative = false; numerator = N; denominator = D }); approximate = false }
 
 -- ---- pairs and values
 
@@ -149,12 +154,16 @@ valueOf s x =
     if eqb (x .numerator) 0 then Zero s else
     Fraction (record { negative = s; numerator = x .numerator; denominator = x .denominator })
 
--- The pair of a value: a fraction's fields, zero as 0/1, infinity as 1/0.
+-- The parts of a value: a fraction's fields, zero as 0/1, infinity as 1/0; not-a-number has none, and gets 0/0.
+abbrev pub partsOf : Value → Parts
+partsOf (Fraction p) = p
+partsOf (Zero s) = record { negative = s; numerator = 0; denominator = 1 }
+partsOf (Infinity s) = record { negative = s; numerator = 1; denominator = 0 }
+partsOf NotANumber = record { negative = false; numerator = 0; denominator = 0 }
+
+-- Its pair, the sign apart.
 unfoldable pub pairOf : Value → Pair
-pairOf (Fraction p) = pair (p .numerator) (p .denominator)
-pairOf (Zero s) = pair 0 1
-pairOf (Infinity s) = pair 1 0
-pairOf NotANumber = pair 0 0
+pairOf v = pair (partsOf v .numerator) (partsOf v .denominator)
 
 -- Demand 3, of a word w that stands for N/D: its pair is the best that the format holds.
 unfoldable pub BestFor : Format → ℕ → ℕ → ℕ → Type 0

@@ -10,15 +10,12 @@ pub(crate) fn power(k: u64) -> u64
     1 << k
 }
 
-// How many bits n takes; 0 takes one.
+// How many bits n takes; 0 takes one. Counted of n with its lowest bit set, which takes as many, so
+// that 0 is no case apart.
 pub(crate) fn bit_count(n: u64) -> u64
     ensures { λ r. ⌜ r ≡ bitCount n ⌝ }
 {
-    if n == 0 {
-        1
-    } else {
-        64 - (u64::leading_zeros(n) as u64)
-    }
+    64 - (u64::leading_zeros(n / 2 * 2 + 1) as u64)
 }
 
 // count bits of w, from bit from on.
@@ -29,6 +26,14 @@ pub(crate) fn field(w: u64, from: u64, count: u64) -> u64
     (w >> from) & (power(count) - 1)
 }
 
+// The bits of w below bit count.
+pub(crate) fn below(w: u64, count: u64) -> u64
+    requires { ⌜ count < 64 ⌝ }
+    ensures { λ r. ⌜ r ≡ bits 0 count w ⌝ }
+{
+    w - ((w >> count) << count)
+}
+
 // Whether bit from of w is set.
 pub(crate) fn flag(w: u64, from: u64) -> bool
     requires { ⌜ from < 64 ⌝ }
@@ -37,8 +42,8 @@ pub(crate) fn flag(w: u64, from: u64) -> bool
     field(w, from, 1) == 1
 }
 
-// 1 for true.
-pub(crate) fn set_bit(b: bool) -> u64
+// 1 for a bit that is set.
+pub(crate) fn bit_of(b: bool) -> u64
     ensures { λ r. ⌜ r ≡ bitOf b ⌝ }
 {
     if b { 1 } else { 0 }

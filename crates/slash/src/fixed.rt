@@ -3,15 +3,14 @@ ghost use mathlib.Core.Path.{_≡_};
 ghost use Prim.Native.Nat.{_≤_, _<_, _^_};
 ghost use Rattle.slash.specs.Bits.{bitOf};
 ghost use Rattle.slash.specs.Words.{fixedValue, fixedNumber, fixedWord};
+use crate::bits::bit_of;
 use crate::bits::field;
 use crate::bits::flag;
 use crate::bits::pack;
-use crate::bits::set_bit;
-use crate::number::Number;
 use crate::number::Parts;
 use crate::number::Value;
 
-fn value(negative: bool, n: u64, d: u64) -> Value
+fn parts_value(negative: bool, n: u64, d: u64) -> Value
     ensures { λ r. ⌜ r ≡ fixedValue negative n d ⌝ }
 {
     if n == 0 {
@@ -37,20 +36,23 @@ fn value(negative: bool, n: u64, d: u64) -> Value
     }
 }
 
-pub(crate) fn number(k: u64, w: u64) -> Number
+pub(crate) fn value(k: u64, w: u64) -> Value
     requires { ⌜ k ≤ 31 ⌝ }
-    ensures { λ r. ⌜ r ≡ fixedNumber k w ⌝ }
+    ensures { λ r. ⌜ r ≡ fixedNumber k w .value ⌝ }
 {
-    let v = value(flag(w, 2 * k + 1), field(w, k + 1, k), field(w, 0, k));
-    Number {
-        value: v,
-        approximate: flag(w, k),
-    }
+    parts_value(flag(w, 2 * k + 1), field(w, k + 1, k), field(w, 0, k))
+}
+
+pub(crate) fn is_approximate(k: u64, w: u64) -> bool
+    requires { ⌜ k ≤ 31 ⌝ }
+    ensures { λ r. ⌜ r ≡ fixedNumber k w .approximate ⌝ }
+{
+    flag(w, k)
 }
 
 pub(crate) fn word(k: u64, negative: bool, approximate: bool, n: u64, d: u64) -> u64
     requires { ⌜ (k ≤ 31) × (n < 2 ^ k) × (d < 2 ^ k) ⌝ }
     ensures { λ r. ⌜ r ≡ fixedWord k (bitOf negative) n (bitOf approximate) d ⌝ }
 {
-    pack(set_bit(negative), n, k, set_bit(approximate), 1, d, k)
+    pack(bit_of(negative), n, k, bit_of(approximate), 1, d, k)
 }

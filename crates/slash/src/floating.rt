@@ -4,14 +4,14 @@ ghost use Prim.Native.Nat.{_+_, _-_, _≤_, _<_, _^_};
 ghost use Rattle.slash.specs.Bits.{bitOf, bitCount};
 ghost use Rattle.slash.specs.Formats.{slashBits};
 ghost use Rattle.slash.specs.Words.{slashPosition, slashUndefined, floatingFraction, floatingSpecial, floatingNumber, floatingWord, floatingPair, floatingNan};
+use crate::bits::below;
 use crate::bits::bit_count;
+use crate::bits::bit_of;
 use crate::bits::field;
 use crate::bits::flag;
 use crate::bits::pack;
 use crate::bits::power;
-use crate::bits::set_bit;
 use crate::format::slash_bits;
-use crate::number::Number;
 use crate::number::Parts;
 use crate::number::Value;
 
@@ -30,9 +30,10 @@ pub(crate) fn is_undefined(k: u64, w: u64) -> bool
     (k - 1 <= e) & (e <= power(slash_bits(k)) - 2)
 }
 
-// The value at a slash position e that parts the field f in a numerator and a denominator.
+// The value at a slash position e that parts the field f in a numerator n and a denominator: f's last
+// e bits, and the leading 1 that isn't stored.
 fn fraction(negative: bool, e: u64, f: u64) -> Value
-    requires { ⌜ e ≤ 30 ⌝ }
+    requires { ⌜ (e ≤ 30) × (f < 2 ^ 31) ⌝ }
     ensures { λ r. ⌜ r ≡ floatingFraction negative e f ⌝ }
 {
     let n = f >> e;
@@ -42,7 +43,7 @@ fn fraction(negative: bool, e: u64, f: u64) -> Value
         Value::Fraction(Parts {
             negative: negative,
             numerator: n,
-            denominator: field(f, 0, e) + power(e),
+            denominator: f - ((n - 1) << e),
         })
     }
 }
@@ -57,28 +58,25 @@ fn special(negative: bool, f: u64) -> Value
     }
 }
 
-pub(crate) fn number(k: u64, w: u64) -> Number
+pub(crate) fn value(k: u64, w: u64) -> Value
     requires { ⌜ (2 ≤ k) × (k ≤ 32) ⌝ }
-    ensures { λ r. ⌜ r ≡ floatingNumber k w ⌝ }
+    ensures { λ r. ⌜ r ≡ floatingNumber k w .value ⌝ }
 {
-    let top = k + slash_bits(k);
-    let negative = flag(w, top);
-    let a = flag(w, top - 1);
+    let negative = flag(w, k + slash_bits(k));
     let e = slash_position(k, w);
-    let f = field(w, 0, k - 1);
+    let f = below(w, k - 1);
     if e <= k - 2 {
-        let v = fraction(negative, e, f);
-        Number {
-            value: v,
-            approximate: a,
-        }
+        fraction(negative, e, f)
     } else {
-        let v = special(negative, f);
-        Number {
-            value: v,
-            approximate: a,
-        }
+        special(negative, f)
     }
+}
+
+pub(crate) fn is_approximate(k: u64, w: u64) -> bool
+    requires { ⌜ (2 ≤ k) × (k ≤ 32) ⌝ }
+    ensures { λ r. ⌜ r ≡ floatingNumber k w .approximate ⌝ }
+{
+    flag(w, k + slash_bits(k) - 1)
 }
 
 // e = 2^L - 1, where infinity and not-a-number stand.
@@ -101,8 +99,8 @@ pub(crate) fn word(k: u64, negative: bool, approximate: bool, n: u64, d: u64) ->
     requires { ⌜ (2 ≤ k) × (k ≤ 32) × (1 ≤ d → bitCount n + bitCount d ≤ k) ⌝ }
     ensures { λ r. ⌜ r ≡ floatingPair k (bitOf negative) (bitOf approximate) n d ⌝ }
 {
-    let s = set_bit(negative);
-    let a = set_bit(approximate);
+    let s = bit_of(negative);
+    let a = bit_of(approximate);
     if d == 0 {
         return from_fields(k, s, a, special_position(k), 0);
     }

@@ -3,7 +3,7 @@ ghost use mathlib.Core.Path.{_≡_};
 ghost use mathlib.Core.Bool.{true};
 ghost use Prim.Native.Nat.{_≤_};
 ghost use Rattle.slash.specs.Answers.{outcome, madeOutcome};
-ghost use Rattle.slash.specs.Formats.{known, makeFormat, ofKnown, slashBits, widthOf, largestNumerator, largestDenominator};
+ghost use Rattle.slash.specs.Formats.{known, kFits, makeFormat, ofKnown, slashBits, widthOf, largestNumerator, largestDenominator};
 use crate::answer::Answer;
 use crate::answer::Stop;
 use crate::bits::bit_count;
@@ -81,13 +81,19 @@ impl Format {
     pub fn is_known(self) -> bool
         ensures { λ r. ⌜ r ≡ known self ⌝ }
     {
-        let fixed = (self.kind == Format::FIXED)
-            & (Format::LEAST_K <= self.k)
-            & (self.k <= Format::MOST_FIXED_K);
-        let floating = (self.kind == Format::FLOATING)
-            & (Format::LEAST_K <= self.k)
-            & (self.k <= Format::MOST_FLOATING_K);
-        fixed | floating
+        let kind = (self.kind == Format::FIXED) | (self.kind == Format::FLOATING);
+        kind & self.k_fits()
+    }
+
+    // Whether k is within its bounds; a kind that isn't fixed is taken as floating.
+    pub(crate) fn k_fits(self) -> bool
+        ensures { λ r. ⌜ r ≡ kFits self ⌝ }
+    {
+        if self.kind == Format::FIXED {
+            (Format::LEAST_K <= self.k) & (self.k <= Format::MOST_FIXED_K)
+        } else {
+            (Format::LEAST_K <= self.k) & (self.k <= Format::MOST_FLOATING_K)
+        }
     }
 
     pub(crate) fn word_bits(self) -> u64

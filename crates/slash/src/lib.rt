@@ -1,13 +1,15 @@
-// Slash arithmetic: formats, words, rounding. Every public function takes whatever comes and
-// answers in one way: Done with what it makes, or Stopped with the stop's number and place.
+// Slash arithmetic: formats, words, rounding. Every public function takes whatever comes, and those
+// that can stop answer in one way: Done with what they make, or Stopped with the stop's number and
+// place.
 mod answer;
 mod bits;
 mod fixed;
 mod floating;
 mod format;
 mod number;
+mod reading;
 mod rounding;
-mod word;
+mod writing;
 
 pub use answer::Answer;
 pub use answer::Stop;
@@ -17,9 +19,15 @@ pub use number::Number;
 pub use number::Parts;
 pub use number::Value;
 pub use number::is_nan;
+pub use number::parts_of;
+pub use reading::Checked;
+pub use reading::Reading;
+pub use reading::check;
+pub use reading::is_approximate;
+pub use reading::read;
+pub use reading::value;
 pub use rounding::Rounded;
 pub use rounding::Rounding;
 pub use rounding::round;
-pub use word::Reading;
-pub use word::read;
-pub use word::write;
+pub use writing::round_word;
+pub use writing::write;

@@ -1,6 +1,6 @@
 // What a word says: a signed fraction, zero, infinity or not-a-number, and the mark beside it.
 ghost use mathlib.Core.Path.{_≡_};
-ghost use Rattle.slash.specs.Words.{isNan};
+ghost use Rattle.slash.specs.Words.{isNan, partsOf};
 
 // The parts of a fraction. Of a word they are as stored: neither is 0, and they need not be in
 // lowest terms. A number to be written may have any parts.
@@ -22,6 +22,30 @@ pub enum Value {
 pub struct Number {
     pub value: Value,
     pub approximate: bool,
+}
+
+// The parts of a value: a fraction's own, zero as 0/1, infinity as 1/0, not-a-number as 0/0.
+pub fn parts_of(v: Value) -> Parts
+    ensures { λ r. ⌜ r ≡ partsOf v ⌝ }
+{
+    match v {
+        Value::Fraction(p) => p,
+        Value::Zero(s) => Parts {
+            negative: s,
+            numerator: 0,
+            denominator: 1,
+        },
+        Value::Infinity(s) => Parts {
+            negative: s,
+            numerator: 1,
+            denominator: 0,
+        },
+        Value::NotANumber => Parts {
+            negative: false,
+            numerator: 0,
+            denominator: 0,
+        },
+    }
 }
 
 // Whether a value is not-a-number.

@@ -3,3 +3,4 @@ pub mod DivisorLaws
 pub mod QuotientLaws
 pub mod SignedLaws
 pub mod UnaryLaws
+pub mod SignLaws

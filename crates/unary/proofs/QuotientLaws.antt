@@ -1,6 +1,6 @@
 -- Counting and storing partial quotients. Assumes nothing.
 use mathlib.Core.Path.{_≡_, refl, sym, ap, _∙_, subst}
-use mathlib.Core.Bool.{true}
+use mathlib.Core.Bool.{true, false}
 use mathlib.Core.List.{List, [], _∷_, _++_, append-assoc, append-nil}
 use Prim.Native.Nat.{ℕ, zero, suc, _+_, _*_, _/_, _%_, _^_, _≤_, _<_}
 use native.Mathlib.Omega.{arith}
@@ -10,19 +10,22 @@ use native.Mathlib.Numerals.{add-one}
 use lib.Pow.{pow-pos, pow-mono}
 use lib.ListN.{length, take, drop, set, length-set, length-append, take-append-drop}
 use lib.Seq.{length-take-le, take-suc-set, drop-set-lt, drop-drop}
-use borrow.Author.Tests.{le-leb, lt-leb}
+use lib.Dec.{ltb}
+use borrow.Author.Tests.{le-leb, lt-leb, le-ltb, ltb-true, ltb-false}
 use Rattle.convergents.specs.Convergents.{euclid, quotients}
 use Rattle.convergents.proofs.Theorem.{euclid-enough, euclid-done}
 use Rattle.slash.specs.Answers.{Outcome, stop, done, _then_}
 use Rattle.convergents.specs.Pairs.{Pair, pair}
 use Rattle.slash.specs.Formats.{known}
-use Rattle.slash.specs.Words.{pairOf, readWord}
+use Rattle.slash.specs.Words.{partsOf, pairOf, numberOf, numberIn, checkWord, readWord}
 use Rattle.slash.specs.Canonical.{HeldParts, HeldValue}
 use Rattle.slash.proofs.AnswerLaws.{then-stop, then-done, done-inj}
 use Rattle.slash.proofs.FormatLaws.{known-k, small-parts, denominator-below}
+use Rattle.slash.proofs.WordLaws.{checked-known, checked-number, checked-read}
 use Rattle.slash.proofs.Canonical.{read-known, read-held}
 use Rattle.slash.specs.declared.format.Format.{Format}
 use Rattle.slash.specs.declared.number.Number.{Number}
+use Rattle.slash.specs.declared.number.Parts.{Parts}
 use Rattle.slash.specs.declared.number.Value.{Value}
 use Rattle.slash.specs.declared.number.Value.the-variants.{Fraction, Zero, Infinity, NotANumber}
 use Rattle.unary.specs.Quotients.{valueQuotients, wordQuotients, countIn, storedIn, quotientCount, listed}
@@ -97,28 +100,28 @@ module _ {N D : ℕ} {old list : List ℕ} {u v i : ℕ} (s : Storing N D old li
               (ap (λ (k : List ℕ). take i list ++ k) (sym (next-quotient u v l)) ∙ s .total);
         }
 
-  pub store-end : v ≡ 0 → list ≡ quotients N D ++ drop (length (quotients N D)) old
+  pub store-end : v ≡ 0 → (i ≡ length (quotients N D)) × (list ≡ quotients N D ++ drop (length (quotients N D)) old)
   store-end z =
       let e : take i list ≡ quotients N D =
       sym (append-nil (take i list)) ∙ ap (λ (k : List ℕ). take i list ++ k) (sym (no-quotient u v z)) ∙ s .total
       in
       let k : length (quotients N D) ≡ i = ap length (sym e) ∙ length-take-le i list (s .at) in
-      sym (take-append-drop i list) ∙ rw (e, k, s .rest) refl
+      (sym k, sym (take-append-drop i list) ∙ rw (e, k, s .rest) refl)
 
 -- ---- a list that is long enough, or not
 
 module _ (list new : List ℕ) where
-  pub enough : (n : ℕ) (after : List ℕ) → n ≡ length new → n ≤ length list → after ≡ new ++ drop (length new) list
+  pub enough : (n : ℕ) (after : List ℕ) → n ≡ length new → ltb (length list) (length new) ≡ false → after ≡ new ++ drop (length new) list
       → (done n ≡ countIn list new) × (after ≡ storedIn list new)
   unfolding countIn storedIn
   enough n after e h f =
-      let g : length new ≤ length list = omega arith in
+      let g : length new ≤ length list = ltb-false _ _ h in
       (rw (le-leb _ _ g, e) refl, rw (le-leb _ _ g, f) refl)
 
-  pub too-short : (n : ℕ) → n ≡ length new → length list < n → (stop 7 0 ≡ countIn list new) × (list ≡ storedIn list new)
+  pub too-short : ltb (length list) (length new) ≡ true → (stop 7 0 ≡ countIn list new) × (list ≡ storedIn list new)
   unfolding countIn storedIn
-  too-short n e h =
-      let g : length list < length new = omega arith in
+  too-short h =
+      let g : length list < length new = ltb-true _ _ h in
       (rw (lt-leb _ _ g) refl, rw (lt-leb _ _ g) refl)
 
 -- ---- the quotients of a value are those of its pair
@@ -142,10 +145,31 @@ small-pair f h (Zero s) q = (omega arith, omega arith)
 small-pair f h (Infinity s) q = (omega arith, omega arith)
 small-pair f h NotANumber q = (omega arith, omega arith)
 
-pub word-small : (f : Format) (w : ℕ) (x : Number) (n d : ℕ) → done x ≡ readWord f w → pair n d ≡ pairOf (x .value) → (n < 2 ^ 32) × (d < 2 ^ 32)
-word-small f w x n d r e =
-    let h = read-known f w x (sym r) in
-    subst (λ (p : Pair). (p .numerator < 2 ^ 32) × (p .denominator < 2 ^ 32)) (sym e) (small-pair f h (x .value) (read-held f h w x (sym r)))
+-- a good word, whose parts are p
+module _ (f : Format) (w : ℕ) (c : checkWord f w ≡ done tt) (v : Value) (ve : v ≡ numberIn f w .value) (p : Parts) (pe : p ≡ partsOf v) where
+  pair-is : pair (p .numerator) (p .denominator) ≡ pairOf (numberOf f w .value)
+  unfolding pairOf
+  pair-is = rw (pe, ve, checked-number f w c) refl
+
+  pub word-small : (p .numerator < 2 ^ 32) × (p .denominator < 2 ^ 32)
+  word-small =
+      let h = checked-known f w c in
+      subst (λ (q : Pair). (q .numerator < 2 ^ 32) × (q .denominator < 2 ^ 32)) (sym pair-is)
+      (small-pair f h (numberOf f w .value) (read-held f h w _ (checked-read f w c)))
+
+  pub quotients-done : (list : List ℕ) (o : Outcome ℕ) (after : List ℕ)
+      → (o ≡ countIn list (quotients (p .numerator) (p .denominator))) × (after ≡ storedIn list (quotients (p .numerator) (p .denominator)))
+      → (o ≡ quotientCount f w list) × (after ≡ listed (wordQuotients f w) list)
+  unfolding quotientCount wordQuotients listed
+  quotients-done list o after s =
+      let x : Number = numberOf f w in
+      let r : done x ≡ readWord f w = sym (checked-read f w c) in
+      let q : quotients (p .numerator) (p .denominator) ≡ valueQuotients (x .value) =
+      ap (λ (y : Pair). quotients (y .numerator) (y .denominator)) pair-is ∙ value-quotients (x .value)
+      in (
+        then-done _ (then-done _ r refl) (s .0 ∙ ap (countIn list) q),
+        s .1 ∙ ap (storedIn list) q ∙ ap (λ (k : Outcome (List ℕ)). listed k list) (then-done _ r refl),
+      )
 
 module _ (f : Format) (w : ℕ) (list : List ℕ) where
   pub quotients-stop : {n p : ℕ} → stop n p ≡ readWord f w → (stop n p ≡ quotientCount f w list) × (list ≡ listed (wordQuotients f w) list)
@@ -155,22 +179,10 @@ module _ (f : Format) (w : ℕ) (list : List ℕ) where
     ap (λ (o : Outcome (List ℕ)). listed o list) (then-stop _ e),
   )
 
-  pub quotients-done : (x : Number) (n d : ℕ) → done x ≡ readWord f w → pair n d ≡ pairOf (x .value) → (o : Outcome ℕ) (after : List ℕ)
-      → (o ≡ countIn list (quotients n d)) × (after ≡ storedIn list (quotients n d))
-      → (o ≡ quotientCount f w list) × (after ≡ listed (wordQuotients f w) list)
-  unfolding quotientCount wordQuotients listed
-  quotients-done x n d r e o after s =
-      let q : quotients n d ≡ valueQuotients (x .value) =
-      ap (λ (p : Pair). quotients (p .numerator) (p .denominator)) e ∙ value-quotients (x .value)
-      in (
-        then-done _ (then-done _ r refl) (s .0 ∙ ap (countIn list) q),
-        s .1 ∙ ap (storedIn list) q ∙ ap (λ (k : Outcome (List ℕ)). listed k list) (then-done _ r refl),
-      )
-
 -- ---- there are at most 2k of them
 
 -- two turns at least halve the denominator
-few : (j n d : ℕ) → d < 2 ^ j → length (quotients n d) ≤ 2 * j
+pub few : (j n d : ℕ) → d < 2 ^ j → length (quotients n d) ≤ 2 * j
 few zero n d h = let e : d ≡ 0 = omega arith in omega (arith, ap length (no-quotient n d e))
 few (suc j) n d h = go (ℕ-discrete d 0) (ℕ-discrete (n % d) 0) (few j (n % d) (d % (n % d)))
   where
@@ -210,3 +222,9 @@ quotients-at-most f w new e = go (readWord f w) refl
         let same : valueQuotients v ≡ new = done-inj (sym (ap (λ (o : Outcome Number). o then λ y. done (valueQuotients (y .value))) r) ∙ e) in
         let b = few (f .k) (pairOf v .numerator) (pairOf v .denominator) (below-k f h v (read-held f h w x r)) in
         omega (arith, ap length (value-quotients v ∙ same))
+
+-- no word has more than 64
+pub never-more : (n d most : ℕ) → d < 2 ^ 32 → 64 ≤ most → false ≡ ltb most (length (quotients n d))
+never-more n d most l h =
+    let g : length (quotients n d) ≤ most = omega (arith, few 32 n d l) in
+    sym (le-ltb _ _ g)

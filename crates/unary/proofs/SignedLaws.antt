@@ -1,18 +1,19 @@
 -- Signed numbers. Each machine step reads `toZ (ofZ z)`, which is z where z fits; each law is over ℤ, by cases on the sign. Assumes nothing.
-use mathlib.Core.Path.{_≡_, refl, sym, ap, _∙_, subst⁻¹}
+use mathlib.Core.Path.{_≡_, refl, sym, ap, _∙_, subst, subst⁻¹}
 use mathlib.Core.Bool.{Bool, true, false}
 use Prim.Native.Nat.{ℕ, zero, suc, _+_, _-_, _*_, _/_, _%_, _^_, _<_, _≤_}
 use native.Mathlib.Omega.{arith}
 use native.Mathlib.Nat.{zero-add, div-le-self, div-add-mod', mod-lt, mod-le}
 use lib.Dec.{T, ltb}
-use lib.IntN.{ℤ, pos, negsuc, negℤ, natAbs, sucℤ, _+ℤ_, _-ℤ_, _*ℤ_, +ℤ-idl, +ℤ-negℤ-cancel, negℤ-negℤ}
+use lib.IntN.{ℤ, pos, negsuc, negℤ, natAbs, sucℤ, predℤ, _+ℤ_, _-ℤ_, _*ℤ_, +ℤ-idl, +ℤ-comm, +ℤ-negℤ-cancel, -ℤ-+ℤ-cancel, negℤ-negℤ, negℤ-sucℤ}
 use lib.Signed.{ltZ, leZ, nonNeg, quotZ}
 use mir.Syntax.{w64}
 use mir.Val.{Fits, SFits, toZ, ofZ}
 use mir.ValLaws.{toZ-pos}
 use mir.Facts.{toZ-ofZ}
-use borrow.Author.Tests.{le-ltb, lt-ltb, le-leb, ltb-true}
-use Rattle.unary.specs.Floor.{signedOf, isBelowZero, floorBy, ceilingBy, aboveFloor}
+use borrow.Author.Tests.{le-ltb, lt-ltb, le-leb, ltb-true, leb-true}
+use Rattle.slash.specs.Signed.{signedOf}
+use Rattle.unary.specs.Floor.{isBelowZero, floorBy, ceilingBy, aboveFloor}
 use Rattle.unary.specs.Steps.{flipped}
 
 -- what the machine reads of a number that fits
@@ -130,11 +131,6 @@ unfolding flipped
 flipped-fits (pos n) h = record { sfits = h .sfits }
 flipped-fits (negsuc n) h = record { sfits = h .sfits }
 
-flipped-size : (n : ℤ) → natAbs n < 2 ^ 62 → nonNeg (flipped n) ≡ true → natAbs (flipped n) < 2 ^ 62
-unfolding flipped
-flipped-size (pos n) h e = let y : _≡_ {A = ℕ} 0 1 = cc in absurd (omega arith)
-flipped-size (negsuc n) h e = omega arith
-
 module _ (n : ℤ) (h : SFits w64 n) where
   pub flip-fits : SFits w64 (negsuc 0 -ℤ read n)
   flip-fits = subst⁻¹ (λ (z : ℤ). SFits w64 (negsuc 0 -ℤ z)) (same h) (subst⁻¹ (λ (z : ℤ). SFits w64 z) (flip-is n) (flipped-fits n h))
@@ -225,7 +221,57 @@ unfolding floorBy
 floor-next (pos a) d s = let h : a < d * suc (a / d) = omega (arith, div-add-mod' a d, mod-lt a s) in lt-ltb a (d * suc (a / d)) h
 floor-next (negsuc a) d s = next-above a d (a / d) refl
 
--- ---- the ceiling
+-- ---- the ceiling is what its name says: d times it is at least n, and d times the whole number before it is below n
+
+-- what lies above lies below on the other side of 0
+opposite-le : (a b : ℤ) → leZ a b ≡ true → leZ (negℤ b) (negℤ a) ≡ true
+opposite-le (pos zero) (pos zero) h = le-leb 0 0 (omega arith)
+opposite-le (pos zero) (pos (suc n)) h = refl
+opposite-le (pos (suc m)) (pos zero) h = let l : suc m ≤ 0 = leb-true _ _ h in absurd (omega arith)
+opposite-le (pos (suc m)) (pos (suc n)) h = let l : suc m ≤ suc n = leb-true _ _ h in le-leb m n (omega arith)
+opposite-le (pos m) (negsuc n) h = let z : _≡_ {A = ℕ} 0 1 = cc in absurd (omega arith)
+opposite-le (negsuc m) (pos zero) h = le-leb 0 (suc m) (omega arith)
+opposite-le (negsuc m) (pos (suc n)) h = refl
+opposite-le (negsuc m) (negsuc n) h = let l : n ≤ m = leb-true _ _ h in le-leb (suc n) (suc m) (omega arith)
+
+opposite-lt : (a b : ℤ) → ltZ a b ≡ true → ltZ (negℤ b) (negℤ a) ≡ true
+opposite-lt (pos m) (pos zero) h = let l : m < 0 = ltb-true _ _ h in absurd (omega arith)
+opposite-lt (pos zero) (pos (suc n)) h = refl
+opposite-lt (pos (suc m)) (pos (suc n)) h = let l : suc m < suc n = ltb-true _ _ h in lt-ltb m n (omega arith)
+opposite-lt (pos m) (negsuc n) h = let z : _≡_ {A = ℕ} 0 1 = cc in absurd (omega arith)
+opposite-lt (negsuc m) (pos zero) h = lt-ltb 0 (suc m) (omega arith)
+opposite-lt (negsuc m) (pos (suc n)) h = refl
+opposite-lt (negsuc m) (negsuc n) h = let l : n < m = ltb-true _ _ h in lt-ltb (suc n) (suc m) (omega arith)
+
+opposite-product : (d : ℕ) (z : ℤ) → negℤ (pos d *ℤ z) ≡ pos d *ℤ negℤ z
+opposite-product d (pos zero) = let e : d * 0 ≡ 0 = omega arith in rw e refl
+opposite-product d (pos (suc n)) = refl
+opposite-product d (negsuc n) = negℤ-negℤ (pos (d * suc n))
+
+module _ (n : ℤ) (d : ℕ) (s : 0 < d) where
+  pub ceiling-at-least : leZ n (pos d *ℤ ceilingBy n d) ≡ true
+  unfolding ceilingBy
+  ceiling-at-least =
+      let m : ℤ = negℤ n in
+      let q : ℤ = floorBy m d in
+      subst (λ (z : ℤ). leZ z (pos d *ℤ negℤ q) ≡ true) (negℤ-negℤ n)
+      (subst (λ (z : ℤ). leZ (negℤ m) z ≡ true) (opposite-product d q) (opposite-le (pos d *ℤ q) m (floor-at-most m d s)))
+
+  pub ceiling-before : ltZ (pos d *ℤ predℤ (ceilingBy n d)) n ≡ true
+  unfolding ceilingBy
+  ceiling-before =
+      let m : ℤ = negℤ n in
+      let q : ℤ = floorBy m d in
+      let e : negℤ (pos d *ℤ sucℤ q) ≡ pos d *ℤ predℤ (negℤ q) = opposite-product d (sucℤ q) ∙ ap (λ (z : ℤ). pos d *ℤ z) (negℤ-sucℤ q) in
+      subst (λ (z : ℤ). ltZ (pos d *ℤ predℤ (negℤ q)) z ≡ true) (negℤ-negℤ n)
+      (subst (λ (z : ℤ). ltZ z (negℤ m) ≡ true) e (opposite-lt m (pos d *ℤ sucℤ q) (floor-next m d s)))
+
+-- The paper's example: of -2/3 the floor is -1, the ceiling 0, and mod 1 gives 1/3.
+pub of-minus-2-3 : (floorBy (negsuc 1) 3 ≡ negsuc 0) × (ceilingBy (negsuc 1) 3 ≡ pos 0) × (aboveFloor (negsuc 1) 3 ≡ 1)
+unfolding floorBy ceilingBy aboveFloor
+of-minus-2-3 = (refl, refl, refl)
+
+-- ---- how the code comes to it
 
 pub ceiling-size : (n : ℤ) (d : ℕ) → natAbs (ceilingBy n d) ≤ natAbs n
 unfolding ceilingBy
@@ -243,48 +289,107 @@ module _ (n : ℤ) (d : ℕ) (b : natAbs n < 2 ^ 62) where
     unfolding ceilingBy
     ceiling-returns r rf re = same rf ∙ re ∙ ap negℤ (same qf ∙ between)
 
+-- ---- a product and a difference
+
+pub large-fits : (z : ℤ) → natAbs z < 2 ^ 63 → SFits w64 z
+large-fits (pos n) h = record { sfits = omega arith }
+large-fits (negsuc n) h = record { sfits = omega arith }
+
+module _ (d : ℕ) (q : ℤ) (f : SFits w64 q) (small : d < 2 ^ 62) (b : natAbs (pos d *ℤ q) < 2 ^ 63) where
+  product-is : toZ w64 d *ℤ read q ≡ pos d *ℤ q
+  product-is = ap (λ (z : ℤ). z *ℤ read q) (to-pos d small) ∙ ap (λ (z : ℤ). pos d *ℤ z) (same f)
+
+  pub product-fits : SFits w64 (toZ w64 d *ℤ read q)
+  product-fits = subst⁻¹ (λ (z : ℤ). SFits w64 z) product-is (large-fits (pos d *ℤ q) b)
+
+  pub product-returns : read (toZ w64 d *ℤ read q) ≡ pos d *ℤ q
+  product-returns = same product-fits ∙ product-is
+
+module _ (n m : ℤ) (f : SFits w64 n) (g : SFits w64 m) (b : natAbs (n -ℤ m) < 2 ^ 62) where
+  difference-is : read n -ℤ read m ≡ n -ℤ m
+  difference-is = ap (λ (z : ℤ). z -ℤ read m) (same f) ∙ ap (λ (z : ℤ). n -ℤ z) (same g)
+
+  pub difference-fits : SFits w64 (read n -ℤ read m)
+  difference-fits = subst⁻¹ (λ (z : ℤ). SFits w64 z) difference-is (small-fits (n -ℤ m) b)
+
+  pub difference-returns : read (read n -ℤ read m) ≡ n -ℤ m
+  difference-returns = same difference-fits ∙ difference-is
+
 -- ---- mod 1
 
-above-plain : (n : ℤ) (d : ℕ) → nonNeg n ≡ true → natAbs n % d ≡ aboveFloor n d
-unfolding aboveFloor floorBy
-above-plain (pos a) d h =
+-- what d times the floor leaves of n
+left-plain : (a d : ℕ) → pos a -ℤ pos d *ℤ floorBy (pos a) d ≡ pos (a % d)
+unfolding floorBy
+left-plain a d =
     let e : a ≡ a % d + d * (a / d) = omega (arith, div-add-mod' a d) in
-    sym (ap natAbs (ap (λ (m : ℕ). pos m -ℤ pos (d * (a / d))) e ∙ +ℤ-negℤ-cancel (pos (a % d)) (pos (d * (a / d)))))
-above-plain (negsuc a) d h = let y : _≡_ {A = ℕ} 0 1 = cc in absurd (omega arith)
+    ap (λ (m : ℕ). pos m -ℤ pos (d * (a / d))) e ∙ +ℤ-negℤ-cancel (pos (a % d)) (pos (d * (a / d)))
 
-above-flipped : (n : ℤ) (d : ℕ) → 0 < d → nonNeg (flipped n) ≡ true → d - 1 - natAbs (flipped n) % d ≡ aboveFloor n d
-unfolding aboveFloor floorBy flipped
-above-flipped (pos a) d s h = let y : _≡_ {A = ℕ} 0 1 = cc in absurd (omega arith)
-above-flipped (negsuc a) d s h =
+left-below : (a d : ℕ) → 0 < d → negsuc a -ℤ pos d *ℤ floorBy (negsuc a) d ≡ pos (d - 1 - a % d)
+unfolding floorBy
+left-below a d s =
     let x : ℕ = d * suc (a / d) in
     let m : a % d < d = mod-lt a s in
     let e : x ≡ suc a + (d - 1 - a % d) = omega (arith, div-add-mod' a d) in
     let l : suc a ≤ x = omega arith in
-    let g : natAbs (negsuc a +ℤ pos x) ≡ x - suc a = rw (le-ltb x (suc a) l) refl in
-    let k : d - 1 - a % d ≡ x - suc a = omega arith in
-    k ∙ sym (ap natAbs (ap (λ (z : ℤ). negsuc a +ℤ z) (negℤ-negℤ (pos x))) ∙ g)
+    let g : negsuc a +ℤ pos x ≡ pos (x - suc a) = rw (le-ltb x (suc a) l) refl in
+    let k : x - suc a ≡ d - 1 - a % d = omega arith in
+    ap (λ (z : ℤ). negsuc a +ℤ z) (negℤ-negℤ (pos x)) ∙ g ∙ ap pos k
 
-module _ (n : ℤ) (d : ℕ) (b : natAbs n < 2 ^ 62) where
-  pub above-above : (s : ℕ) → s ≡ natAbs (read n) → nonNeg n ≡ true → s % d ≡ aboveFloor n d
-  above-above s e h = ap (λ (m : ℕ). m % d) (e ∙ ap natAbs (same (small-fits n b))) ∙ above-plain n d h
+above-plain : (a d : ℕ) → aboveFloor (pos a) d ≡ a % d
+unfolding aboveFloor
+above-plain a d = ap natAbs (left-plain a d)
 
-  module _ (some : 0 < d) (a : ℤ) (af : SFits w64 a) (ae : a ≡ flipped (read n)) (h : nonNeg (flipped n) ≡ true) where
-    turned : read a ≡ flipped n
-    turned = same af ∙ ae ∙ ap flipped (same (small-fits n b))
-
-    pub above-small : natAbs (read a) < 2 ^ 62
-    above-small = subst⁻¹ (λ (z : ℤ). natAbs z < 2 ^ 62) turned (flipped-size n b h)
-
-    pub above-below : (s : ℕ) → s ≡ natAbs (read a) → d - 1 - s % d ≡ aboveFloor n d
-    above-below s e = ap (λ (m : ℕ). d - 1 - m % d) (e ∙ ap natAbs turned) ∙ above-flipped n d some h
+above-below : (a d : ℕ) → 0 < d → aboveFloor (negsuc a) d ≡ d - 1 - a % d
+unfolding aboveFloor
+above-below a d s = ap natAbs (left-below a d s)
 
 -- it lies from 0 to below 1, and what isn't below 0 has no more of it than its numerator
 pub above-lt : (n : ℤ) (d : ℕ) → 0 < d → aboveFloor n d < d
-above-lt (pos a) d s = omega (arith, above-plain (pos a) d refl, mod-lt a s)
-above-lt (negsuc a) d s = omega (arith, above-flipped (negsuc a) d s (flipped-told a))
-  where
-    flipped-told : (m : ℕ) → nonNeg (flipped (negsuc m)) ≡ true
-    flipped-told m = flipped-above (negsuc m) refl
+above-lt (pos a) d s = omega (arith, above-plain a d, mod-lt a s)
+above-lt (negsuc a) d s = omega (arith, above-below a d s)
 
 pub above-le : (n d : ℕ) → aboveFloor (pos n) d ≤ n
-above-le n d = omega (arith, above-plain (pos n) d refl, mod-le n d)
+above-le n d = omega (arith, above-plain n d, mod-le n d)
+
+-- n is d times its floor, and what is above it
+left-is : (n : ℤ) (d : ℕ) → 0 < d → n -ℤ pos d *ℤ floorBy n d ≡ pos (aboveFloor n d)
+left-is (pos a) d s = left-plain a d ∙ ap pos (sym (above-plain a d))
+left-is (negsuc a) d s = left-below a d s ∙ ap pos (sym (above-below a d s))
+
+pub floor-and-above : (n : ℤ) (d : ℕ) → 0 < d → n ≡ pos d *ℤ floorBy n d +ℤ pos (aboveFloor n d)
+floor-and-above n d s =
+    let m : ℤ = pos d *ℤ floorBy n d in
+    sym (ap (λ (z : ℤ). m +ℤ z) (sym (left-is n d s)) ∙ +ℤ-comm m (n -ℤ m) ∙ -ℤ-+ℤ-cancel n m)
+
+-- d times the floor is at most d above n in size
+floor-product : (n : ℤ) (d : ℕ) → 0 < d → natAbs (pos d *ℤ floorBy n d) ≤ natAbs n + d
+unfolding floorBy
+floor-product (pos a) d s = omega (arith, div-add-mod' a d)
+floor-product (negsuc a) d s = omega (arith, neg-size (pos (d * suc (a / d))), div-add-mod' a d)
+
+-- the floor q, d times it, and what n less that comes to
+module _ (n : ℤ) (d : ℕ) (b : natAbs n < 2 ^ 62) (some : 0 < d) (small : d < 2 ^ 62) (q : ℤ) (qf : SFits w64 q) (qe : q ≡ floorBy (read n) d) where
+  floor-read : read q ≡ floorBy n d
+  floor-read = same qf ∙ qe ∙ ap (λ (z : ℤ). floorBy z d) (same (small-fits n b))
+
+  pub above-product : natAbs (pos d *ℤ read q) < 2 ^ 63
+  above-product = subst⁻¹ (λ (z : ℤ). natAbs (pos d *ℤ z) < 2 ^ 63) floor-read (omega (arith, floor-product n d some))
+
+  module _ (m : ℤ) (mf : SFits w64 m) (me : m ≡ pos d *ℤ read q) where
+    left-read : read n -ℤ read m ≡ n -ℤ pos d *ℤ floorBy n d
+    left-read =
+        ap (λ (z : ℤ). z -ℤ read m) (same (small-fits n b))
+        ∙ ap (λ (z : ℤ). n -ℤ z) (same mf ∙ me ∙ ap (λ (z : ℤ). pos d *ℤ z) floor-read)
+
+    left-size : natAbs (read n -ℤ read m) ≡ aboveFloor n d
+    left-size = ap natAbs (left-read ∙ left-is n d some)
+
+    pub above-difference : natAbs (read n -ℤ read m) < 2 ^ 62
+    above-difference = omega (arith, left-size, above-lt n d some)
+
+    module _ (r : ℤ) (rf : SFits w64 r) (re : r ≡ read n -ℤ read m) where
+      pub above-size : natAbs (read r) < 2 ^ 62
+      above-size = of-read (λ z. natAbs z < 2 ^ 62) rf (omega (arith, ap natAbs re, above-difference))
+
+      pub above-returns : (t : ℕ) → t ≡ natAbs (read r) → t ≡ aboveFloor n d
+      above-returns t e = e ∙ ap natAbs (same rf ∙ re) ∙ left-size

@@ -23,13 +23,14 @@ use Rattle.convergents.proofs.Loop.{differs-not}
 use Rattle.slash.specs.Answers.{Outcome, stop, done, outcome, WhenDone}
 use Rattle.slash.specs.Bits.{bit, bitOf, bitCount}
 use Rattle.slash.specs.Formats.{known, ofKnown, widthOf, holds}
-use Rattle.slash.specs.Words.{numberOf, readWord, wordFor, isNan, isOverZero, writeNumber, BestWord}
-use Rattle.slash.specs.Canonical.{HeldParts, HeldValue}
+use Rattle.slash.specs.Words.{numberOf, numberIn, checkWord, readWord, wordFor, isNan, isOverZero, writeNumber, BestWord}
+use Rattle.slash.specs.Canonical.{HeldParts, HeldValue, CanonicalWord}
 use Rattle.slash.proofs.AnswerLaws.{done-inj, then-stop, then-done}
 use Rattle.slash.proofs.BitLaws.{one-shl, pow-next, bit-true, bit-false}
-use Rattle.slash.proofs.FormatLaws.{of-known, width-range, format-limit, small-parts, fixed-holds, holds-both, holds-floating, floating-holds}
+use Rattle.slash.proofs.FormatLaws.{of-known, known-k, slash-bits-pos, width-fixed, width-floating, width-range, format-limit, small-parts, fixed-holds, holds-both, holds-floating, floating-holds}
+use Rattle.slash.proofs.WordLaws.{checked-known, checked-number, checked-read}
 use Rattle.slash.proofs.WriteLaws.{write-done, word-best}
-use Rattle.slash.proofs.Canonical.{read-known, read-held, read-says}
+use Rattle.slash.proofs.Canonical.{read-known, read-held, read-says, written-canonical}
 use Rattle.slash.specs.declared.answer.Stop.{Stop}
 use Rattle.slash.specs.declared.answer.Answer.{Answer}
 use Rattle.slash.specs.declared.answer.Answer.the-variants as Answer
@@ -38,7 +39,8 @@ use Rattle.slash.specs.declared.number.Parts.{Parts}
 use Rattle.slash.specs.declared.number.Value.{Value}
 use Rattle.slash.specs.declared.number.Value.the-variants.{Fraction, Zero, Infinity, NotANumber}
 use Rattle.slash.specs.declared.number.Number.{Number}
-use Rattle.unary.specs.Floor.{signedOf, floorBy, ceilingBy, aboveFloor}
+use Rattle.slash.specs.Signed.{signedOf}
+use Rattle.unary.specs.Floor.{floorBy, ceilingBy, aboveFloor}
 use Rattle.unary.specs.Steps.{SmallParts, SmallValue}
 use Rattle.unary.specs.Unary.{signBit, withHighest, newSign, signTouched, whole, signedNumerator, reciprocalParts, floorParts, ceilingParts, modParts, exactParts, exactZero, exactInfinity, exactUnary, ExactIn, isUnary, unaryResult, unaryWord}
 use Rattle.unary.proofs.SignedLaws.{read, same, small-fits, of-read, signed-size, test-is, floor-size, ceiling-size, above-lt, above-le}
@@ -81,13 +83,17 @@ module _ (f : Format) (known-it : known f ≡ true) (a : Answer) (told : outcome
       let z : _≡_ {A = ℕ} 0 1 = cc in
       absurd (omega arith)
 
-  pub sign-place : (n : ℕ) → a ≡ Answer.Done n → (1 ≤ n) × (n - 1 < 64)
-  sign-place n e = let r = width-range f known-it in (omega (arith, width-told n e), omega (arith, width-told n e))
+  -- a word has from 4 to 64 bits
+  pub width-some : (n : ℕ) → a ≡ Answer.Done n → (4 ≤ n) × (n ≤ 64)
+  width-some n e = go (ℕ-discrete (f .kind) 1)
+    where
+      go : Dec (f .kind ≡ 1) → (4 ≤ n) × (n ≤ 64)
+      go (yes k) = omega (arith, width-told n e, width-range f known-it, width-fixed f k, known-k f known-it)
+      go (no k) = omega (arith, width-told n e, width-range f known-it, width-floating f k _ refl, known-k f known-it, slash-bits-pos (f .k) (known-k f known-it .0))
 
-  pub sign-touched : (n code w r : ℕ) → a ≡ Answer.Done n → r ≡ withHighest (n - 1) (newSign code (bit (n - 1) w)) w → done r ≡ done (signTouched f code w)
-  unfolding signTouched signBit
-  sign-touched n code w r e g =
-      ap done (g ∙ ap (λ (m : ℕ). withHighest (m - 1) (newSign code (bit (m - 1) w)) w) (width-told n e))
+pub touch-done : (f : Format) (place code w r : ℕ) → r ≡ withHighest place (newSign code (bit place w)) w → place ≡ signBit f → done r ≡ done (signTouched f code w)
+unfolding signTouched
+touch-done f place code w r g e = ap done (g ∙ ap (λ (m : ℕ). withHighest m (newSign code (bit m w)) w) e)
 
 -- ---- whole numbers
 
@@ -229,7 +235,7 @@ over-exact f code NotANumber q = refl
 -- ---- what a code makes of a word
 
 module _ (f : Format) (h : known f ≡ true) (code w : ℕ) (x : Number) where
-  pub result-touched : (o : Outcome ℕ) → (leb code 2 && not (isNan (x .value))) ≡ true → o ≡ done (signTouched f code w)
+  result-touched : (o : Outcome ℕ) → (leb code 2 && not (isNan (x .value))) ≡ true → o ≡ done (signTouched f code w)
       → (o ≡ done (unaryResult f code w x)) × (3 ≤ code → WhenDone o (λ v. BestWord f (exactUnary code (x .value)) v))
   unfolding unaryResult
   result-touched o t e = (
@@ -237,7 +243,7 @@ module _ (f : Format) (h : known f ≡ true) (code w : ℕ) (x : Number) where
     λ l. let g : leb code 2 ≡ false = lt-leb _ _ l in let z : _≡_ {A = ℕ} 0 1 = cc in absurd (omega arith),
   )
 
-  pub result-written : HeldValue f (x .value) → (o : Outcome ℕ) (v : Value) → (leb code 2 && not (isNan (x .value))) ≡ false → v ≡ exactUnary code (x .value)
+  result-written : HeldValue f (x .value) → (o : Outcome ℕ) (v : Value) → (leb code 2 && not (isNan (x .value))) ≡ false → v ≡ exactUnary code (x .value)
       → (o ≡ writeNumber f (record { value = v; approximate = x .approximate })) × WhenDone o (λ u. BestWord f v u)
       → (o ≡ done (unaryResult f code w x)) × (3 ≤ code → WhenDone o (λ u. BestWord f (exactUnary code (x .value)) u))
   unfolding unaryResult
@@ -252,6 +258,42 @@ module _ (f : Format) (h : known f ≡ true) (code w : ℕ) (x : Number) where
   pub result-best : HeldValue f (x .value) → 3 ≤ code → BestWord f (exactUnary code (x .value)) (unaryResult f code w x)
   unfolding unaryResult
   result-best q l = rw (lt-leb code 2 l) (word-best f h (x .approximate) (exactUnary code (x .value)) (over-exact f code (x .value) q))
+
+  result-canonical : HeldValue f (x .value) → 3 ≤ code → CanonicalWord f (unaryResult f code w x)
+  unfolding unaryResult
+  result-canonical q l =
+      let y : Number = record { value = exactUnary code (x .value); approximate = x .approximate } in
+      rw (lt-leb code 2 l) (written-canonical f y _ (sym (write-done f y h (over-exact f code (x .value) q))))
+
+-- the same of a good word, whose value is v and whose mark is a
+module _ (f : Format) (code w : ℕ) (c : checkWord f w ≡ done tt) (v : Value) (ve : v ≡ numberIn f w .value) (b : Bool) (be : b ≡ (leb code 2 && not (isNan v))) where
+  abbrev X : Number
+  X = numberOf f w
+
+  value-is : v ≡ X .value
+  value-is = ve ∙ ap (λ (x : Number). x .value) (checked-number f w c)
+
+  held : HeldValue f (X .value)
+  held = read-held f (checked-known f w c) w X (checked-read f w c)
+
+  pub good-small : SmallValue v
+  good-small = subst SmallValue (sym value-is) (held-small f (checked-known f w c) (X .value) held)
+
+  test : {t : Bool} → b ≡ t → (leb code 2 && not (isNan (X .value))) ≡ t
+  test e = ap (λ (u : Value). leb code 2 && not (isNan u)) (sym value-is) ∙ sym be ∙ e
+
+  abbrev Made : Outcome ℕ → Type 0
+  Made o = (o ≡ done (unaryResult f code w X)) × (3 ≤ code → WhenDone o (λ u. BestWord f (exactUnary code (X .value)) u))
+
+  pub good-touched : (o : Outcome ℕ) → b ≡ true → o ≡ done (signTouched f code w) → Made o
+  good-touched o t e = result-touched f (checked-known f w c) code w X o (test t) e
+
+  pub good-written : (o : Outcome ℕ) (y : Value) (a : Bool) → b ≡ false → y ≡ exactUnary code v → a ≡ numberIn f w .approximate
+      → (o ≡ writeNumber f (record { value = y; approximate = a })) × WhenDone o (λ u. BestWord f y u) → Made o
+  good-written o y a t e ae r =
+      let g : a ≡ X .approximate = ae ∙ ap (λ (x : Number). x .approximate) (checked-number f w c) in
+      result-written f (checked-known f w c) code w X held o y (test t) (e ∙ ap (exactUnary code) value-is)
+      (r .0 ∙ ap (λ (m : Bool). writeNumber f (record { value = y; approximate = m })) g, r .1)
 
 module _ (f : Format) (code w : ℕ) where
   pub unary-format : known f ≡ false → stop 1 0 ≡ unaryWord f code w
@@ -277,24 +319,43 @@ module _ (f : Format) (code w : ℕ) where
         λ l. subst (λ (y : Number). WhenDone o (λ v. BestWord f (exactUnary code (y .value)) v)) (sym (read-says f h w x (sym e) .number)) (r .1 l),
       )
 
--- Every word that codes 3 to 7 make is the best for the exact value.
+-- what holds of the word that a code makes of each number that is read holds of what `unary` makes
+module _ (f : Format) (code w : ℕ) (P : ℕ → Type 0) (good : (x : Number) → known f ≡ true → readWord f w ≡ done x → P (unaryResult f code w x)) where
+  of-word : (x : Number) → known f ≡ true → isUnary code ≡ true → done x ≡ readWord f w → done (unaryResult f code w x) ≡ unaryWord f code w
+  unfolding unaryWord
+  of-word x h i e = rw (h, i) (then-done _ e refl)
+
+  pub when-unary : WhenDone (unaryWord f code w) P
+  when-unary = go (known f) refl (isUnary code) refl (readWord f w) refl
+    where
+      here : (o : Outcome ℕ) → o ≡ unaryWord f code w → WhenDone o P → WhenDone (unaryWord f code w) P
+      here o e b = subst (λ (p : Outcome ℕ). WhenDone p P) e b
+
+      go : (k : Bool) → known f ≡ k → (b : Bool) → isUnary code ≡ b → (o : Outcome Number) → readWord f w ≡ o → WhenDone (unaryWord f code w) P
+      go false h b i o oe = here _ (unary-format f code w h) tt
+      go true h false i o oe = here _ (unary-code f code w h i) tt
+      go true h true i (stop n q) oe = here _ (unary-stop f code w h i (sym oe)) tt
+      go true h true i (done x) oe = here _ (of-word x h i (sym oe)) (good x h oe)
+
 module _ (f : Format) (code w : ℕ) where
   abbrev BestHere : ℕ → Type 0
   BestHere v = 3 ≤ code → BestWord f (exactUnary code (numberOf f w .value)) v
 
+  -- Every word that codes 3 to 7 make is the best for the exact value.
   pub unary-best : WhenDone (unaryWord f code w) BestHere
-  unary-best = go (known f) refl (isUnary code) refl (readWord f w) refl
+  unary-best = when-unary f code w BestHere good
     where
-      here : (o : Outcome ℕ) → o ≡ unaryWord f code w → WhenDone o BestHere → WhenDone (unaryWord f code w) BestHere
-      here o e b = subst (λ (p : Outcome ℕ). WhenDone p BestHere) e b
+      good : (x : Number) → known f ≡ true → readWord f w ≡ done x → BestHere (unaryResult f code w x)
+      good x h e l =
+          subst (λ (y : Number). BestWord f (exactUnary code (y .value)) (unaryResult f code w x)) (sym (read-says f h w x e .number))
+          (result-best f h code w x (read-held f h w x e) l)
 
-      go : (k : Bool) → known f ≡ k → (b : Bool) → isUnary code ≡ b → (o : Outcome Number) → readWord f w ≡ o → WhenDone (unaryWord f code w) BestHere
-      go false h b i o oe = here _ (unary-format f code w h) tt
-      go true h false i o oe = here _ (unary-code f code w h i) tt
-      go true h true i (stop n q) oe = here _ (unary-stop f code w h i (sym oe)) tt
-      go true h true i (done x) oe =
-          let r = unary-done f code w h i x (sym oe) (done (unaryResult f code w x)) (refl, result-best f h code w x (read-held f h w x oe)) in
-          here _ (r .0) (r .1)
+  -- And it is canonical.
+  pub unary-canonical : 3 ≤ code → (v : ℕ) → unaryWord f code w ≡ done v → CanonicalWord f v
+  unary-canonical l v e = subst (λ (o : Outcome ℕ). WhenDone o (λ u. CanonicalWord f u)) e (when-unary f code w (λ u. CanonicalWord f u) good)
+    where
+      good : (x : Number) → known f ≡ true → readWord f w ≡ done x → CanonicalWord f (unaryResult f code w x)
+      good x h r = result-canonical f h code w x (read-held f h w x r) l
 
 -- ---- what always fits
 

@@ -3,12 +3,7 @@ use Prim.Native.Nat.{ℕ, _/_}
 use mathlib.Core.Bool.{Bool, true, false}
 use lib.IntN.{ℤ, pos, negsuc, negℤ, natAbs, _-ℤ_, _*ℤ_}
 
--- A sign and a size as a signed number.
-unfoldable pub signedOf : Bool → ℕ → ℤ
-signedOf true n = negℤ (pos n)
-signedOf false n = pos n
-
--- Its sign: 0 has none.
+-- The sign of a signed number: 0 has none.
 unfoldable pub isBelowZero : ℤ → Bool
 isBelowZero (pos n) = false
 isBelowZero (negsuc m) = true

@@ -9,14 +9,15 @@ use Rattle.convergents.specs.Pairs.{differs}
 use Rattle.convergents.specs.Rounding.{round}
 use Rattle.slash.specs.Answers.{Outcome, stop, done, _then_}
 use Rattle.slash.specs.Bits.{bit, bitOf}
-use Rattle.slash.specs.Formats.{known, widthOf, holds}
+use Rattle.slash.specs.Formats.{widthOf, holds, whenKnown}
+use Rattle.slash.specs.Signed.{signedOf}
 use Rattle.slash.specs.Words.{readWord, wordFor, isNan}
 use Rattle.slash.specs.declared.format.Format.{Format}
 use Rattle.slash.specs.declared.number.Parts.{Parts}
 use Rattle.slash.specs.declared.number.Value.{Value}
 use Rattle.slash.specs.declared.number.Value.the-variants.{Fraction, Zero, Infinity, NotANumber}
 use Rattle.slash.specs.declared.number.Number.{Number}
-use Rattle.unary.specs.Floor.{signedOf, isBelowZero, floorBy, ceilingBy, aboveFloor}
+use Rattle.unary.specs.Floor.{isBelowZero, floorBy, ceilingBy, aboveFloor}
 
 -- ---- negate and absolute value
 
@@ -34,6 +35,19 @@ newSign code s = eqb code 1 && not s
 
 unfoldable pub signTouched : Format → (code w : ℕ) → ℕ
 signTouched f code w = withHighest (signBit f) (newSign code (bit (signBit f) w)) w
+
+-- What that comes to, of what the words say: the sign of a value, and the value with another one. (Not-a-number has none.)
+unfoldable pub signIn : Value → Bool
+signIn (Fraction p) = p .negative
+signIn (Zero s) = s
+signIn (Infinity s) = s
+signIn NotANumber = false
+
+unfoldable pub withSign : Bool → Value → Value
+withSign s (Fraction p) = Fraction (record { negative = s; numerator = p .numerator; denominator = p .denominator })
+withSign s (Zero t) = Zero s
+withSign s (Infinity t) = Infinity s
+withSign s NotANumber = NotANumber
 
 -- ---- the exact values of the other codes: 3 reciprocal, 4 floor, 5 ceiling, 6 mod 1, and 7 normalise
 
@@ -107,7 +121,7 @@ unaryResult f code w x =
 -- Stop 1 for the format, 2 for the code, then the word's.
 unfoldable pub unaryWord : Format → (code w : ℕ) → Outcome ℕ
 unaryWord f code w =
-    if not (known f) then stop 1 0 else
+    whenKnown f (
     if not (isUnary code) then stop 2 0 else
     readWord f w then λ x.
-    done (unaryResult f code w x)
+    done (unaryResult f code w x))

@@ -3,8 +3,8 @@ ghost use mathlib.Core.Path.{_≡_};
 ghost use Rattle.slash.specs.Answers.{outcome};
 ghost use Rattle.unary.specs.Divisor.{gcdOf, valueGcd, gcdWord};
 use slash::Answer;
+use slash::Checked;
 use slash::Format;
-use slash::Reading;
 use slash::Value;
 
 // Euclid's algorithm.
@@ -36,10 +36,10 @@ fn value_divisor(v: Value) -> u64
 pub fn gcd(f: Format, w: u64) -> Answer
     ensures { λ r. ⌜ outcome r ≡ gcdWord f w ⌝ }
 {
-    match slash::read(f, w) {
-        Reading::Stopped(s) => Answer::Stopped(s),
-        Reading::Done(x) => {
-            let v = x.value;
+    match slash::check(f, w) {
+        Checked::Stopped(s) => Answer::Stopped(s),
+        Checked::Good => {
+            let v = slash::value(f, w);
             Answer::Done(value_divisor(v))
         }
     }

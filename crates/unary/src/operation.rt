@@ -7,17 +7,32 @@ ghost use Rattle.slash.specs.Answers.{outcome, done, WhenDone};
 ghost use Rattle.slash.specs.Bits.{bit};
 ghost use Rattle.slash.specs.Canonical.{HeldValue};
 ghost use Rattle.slash.specs.Formats.{known};
-ghost use Rattle.slash.specs.Words.{BestWord, numberOf};
+ghost use Rattle.slash.specs.Words.{BestWord, numberOf, checkWord};
 ghost use Rattle.unary.specs.Steps.{SmallParts, SmallValue};
 ghost use Rattle.unary.specs.Unary.{withHighest, newSign, signTouched, whole, floorParts, ceilingParts, modParts, exactParts, exactZero, exactInfinity, exactUnary, isUnary, unaryResult, unaryWord};
 use crate::signed;
 use slash::Answer;
+use slash::Checked;
 use slash::Format;
 use slash::Number;
 use slash::Parts;
-use slash::Reading;
 use slash::Stop;
 use slash::Value;
+
+// The codes of the operations.
+const NEGATE: u64 = 1;
+
+const ABSOLUTE: u64 = 2;
+
+const RECIPROCAL: u64 = 3;
+
+const FLOOR: u64 = 4;
+
+const CEILING: u64 = 5;
+
+const MOD_1: u64 = 6;
+
+const NORMALISE: u64 = 7;
 
 // w with its highest bit set or not, and every other bit as it was.
 fn with_highest(highest: u64, set: bool, w: u64) -> u64
@@ -34,7 +49,7 @@ fn touch_highest(highest: u64, code: u64, w: u64) -> u64
     ensures { λ r. ⌜ r ≡ withHighest highest (newSign code (bit highest w)) w ⌝ }
 {
     let negative = (w >> highest) % 2 == 1;
-    with_highest(highest, (code == 1) & !negative, w)
+    with_highest(highest, (code == NEGATE) & !negative, w)
 }
 
 // Code 1 turns the sign of a word, code 2 takes it off.
@@ -92,20 +107,20 @@ fn exact_parts(code: u64, p: Parts) -> Parts
     requires { ⌜ SmallParts p ⌝ }
     ensures { λ r. ⌜ r ≡ exactParts code p ⌝ }
 {
-    if code == 3 {
+    if code == RECIPROCAL {
         return Parts {
             negative: p.negative,
             numerator: p.denominator,
             denominator: p.numerator,
         };
     }
-    if code == 4 {
+    if code == FLOOR {
         return floor_parts(p);
     }
-    if code == 5 {
+    if code == CEILING {
         return ceiling_parts(p);
     }
-    if code == 6 {
+    if code == MOD_1 {
         return mod_parts(p);
     }
     p
@@ -114,10 +129,10 @@ fn exact_parts(code: u64, p: Parts) -> Parts
 fn exact_zero(code: u64, negative: bool) -> Value
     ensures { λ r. ⌜ r ≡ exactZero code negative ⌝ }
 {
-    if code == 3 {
+    if code == RECIPROCAL {
         return Value::Infinity(negative);
     }
-    if code == 7 {
+    if code == NORMALISE {
         return Value::Zero(negative);
     }
     Value::Zero(false)
@@ -126,10 +141,10 @@ fn exact_zero(code: u64, negative: bool) -> Value
 fn exact_infinity(code: u64, negative: bool) -> Value
     ensures { λ r. ⌜ r ≡ exactInfinity code negative ⌝ }
 {
-    if code == 3 {
+    if code == RECIPROCAL {
         return Value::Zero(negative);
     }
-    if code == 6 {
+    if code == MOD_1 {
         return Value::NotANumber;
     }
     Value::Infinity(negative)
@@ -151,17 +166,17 @@ fn exact_value(code: u64, v: Value) -> Value
 pub fn is_unary(code: u64) -> bool
     ensures { λ r. ⌜ r ≡ isUnary code ⌝ }
 {
-    (1 <= code) & (code <= 7)
+    (NEGATE <= code) & (code <= NORMALISE)
 }
 
-// What a code makes of w, which says x.
-fn result(f: Format, code: u64, w: u64, x: Number) -> Answer
-    requires { ⌜ (known f ≡ true) × HeldValue f (x .value) ⌝ }
-    ensures written { λ r. ⌜ outcome r ≡ done (unaryResult f code w x) ⌝ }
-    ensures best { λ r. ⌜ (3 ≤ code → WhenDone (outcome r) (λ v. BestWord f (exactUnary code (x .value)) v)) ⌝ }
+// What a code makes of a good word.
+fn result(f: Format, code: u64, w: u64) -> Answer
+    requires { ⌜ checkWord f w ≡ done tt ⌝ }
+    ensures written { λ r. ⌜ outcome r ≡ done (unaryResult f code w (numberOf f w)) ⌝ }
+    ensures best { λ r. ⌜ (3 ≤ code → WhenDone (outcome r) (λ v. BestWord f (exactUnary code (numberOf f w .value)) v)) ⌝ }
 {
-    let v = x.value;
-    if (code <= 2) & !slash::is_nan(v) {
+    let v = slash::value(f, w);
+    if (code <= ABSOLUTE) & !slash::is_nan(v) {
         return touch_sign(f, code, w);
     }
     let exact = exact_value(code, v);
@@ -169,7 +184,7 @@ fn result(f: Format, code: u64, w: u64, x: Number) -> Answer
         f,
         Number {
             value: exact,
-            approximate: x.approximate,
+            approximate: slash::is_approximate(f, w),
         },
     )
 }
@@ -186,8 +201,8 @@ pub fn unary(f: Format, code: u64, w: u64) -> Answer
     if !is_unary(code) {
         return Answer::Stopped(Stop::plain(Stop::CODE));
     }
-    match slash::read(f, w) {
-        Reading::Stopped(s) => Answer::Stopped(s),
-        Reading::Done(x) => result(f, code, w, x),
+    match slash::check(f, w) {
+        Checked::Stopped(s) => Answer::Stopped(s),
+        Checked::Good => result(f, code, w),
     }
 }

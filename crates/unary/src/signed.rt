@@ -2,9 +2,10 @@
 ghost use mathlib.Core.Path.{_≡_};
 ghost use mathlib.Core.Bool.{true};
 ghost use Prim.Native.Nat.{_<_, _/_, _^_};
-ghost use lib.IntN.{pos, negℤ, natAbs};
+ghost use lib.IntN.{pos, negℤ, natAbs, _-ℤ_, _*ℤ_};
 ghost use lib.Signed.{nonNeg};
-ghost use Rattle.unary.specs.Floor.{signedOf, floorBy, ceilingBy, aboveFloor};
+ghost use Rattle.slash.specs.Signed.{signedOf};
+ghost use Rattle.unary.specs.Floor.{floorBy, ceilingBy, aboveFloor};
 ghost use Rattle.unary.specs.Steps.{flipped};
 
 // A sign and a size as one number.
@@ -62,13 +63,24 @@ pub(crate) fn ceiling(n: i64, d: u64) -> i64
     opposite(floor(opposite(n), d))
 }
 
+fn product(d: u64, q: i64) -> i64
+    requires { ⌜ (d < 2 ^ 62) × (natAbs (pos d *ℤ q) < 2 ^ 63) ⌝ }
+    ensures { λ r. ⌜ r ≡ pos d *ℤ q ⌝ }
+{
+    (d as i64) * q
+}
+
+fn difference(n: i64, m: i64) -> i64
+    requires { ⌜ natAbs (n -ℤ m) < 2 ^ 62 ⌝ }
+    ensures { λ r. ⌜ r ≡ n -ℤ m ⌝ }
+{
+    n - m
+}
+
+// What is left of n above d times its floor.
 pub(crate) fn above_floor(n: i64, d: u64) -> u64
     requires { ⌜ (natAbs n < 2 ^ 62) × (0 < d) × (d < 2 ^ 62) ⌝ }
     ensures { λ r. ⌜ r ≡ aboveFloor n d ⌝ }
 {
-    if n < 0 {
-        d - 1 - size(flip(n)) % d
-    } else {
-        size(n) % d
-    }
+    size(difference(n, product(d, floor(n, d))))
 }

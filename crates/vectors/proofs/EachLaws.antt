@@ -7,11 +7,13 @@ use native.Mathlib.Nat.{not-suc-le-zero, le-of-suc-le-suc}
 use native.Mathlib.Numerals.{add-one}
 use lib.ListN.{length, take, drop, set, getD, drop-of-length-le}
 use lib.Seq.{drop-cons, take-suc-set, take-all}
-use Rattle.slash.specs.Answers.{Outcome, stop, done, _then_, WhenDone}
+use Rattle.slash.specs.Answers.{Outcome, stop, done, _then_, WhenDone, checkOutcome}
 use Rattle.slash.proofs.AnswerLaws.{plain-stop}
 use Rattle.slash.specs.declared.answer.Stop.{Stop}
+use Rattle.slash.specs.declared.reading.Checked.{Checked}
+use Rattle.slash.specs.declared.reading.Checked.the-variants as Checked
 use Rattle.vectors.specs.Each.{atPlace, each, vectorAfter, told, storedOutcome, EachPlace}
-use Rattle.vectors.specs.Vectors.{Operands, operands, places}
+use Rattle.vectors.specs.Vectors.{operands, places}
 use Rattle.vectors.specs.Steps.{checks, wordIn}
 use Rattle.vectors.specs.declared.stored.Stored.{Stored}
 use Rattle.vectors.specs.declared.stored.Stored.the-variants as Stored
@@ -147,17 +149,9 @@ refused s n o old se e =
     (rw (← t) refl, (rw (← t) refl, tt))
 
 -- what a check answered, by its case
-module _ {a : Stored} {o : Outcome (Unit {0})} (h : storedOutcome a ≡ o) where
-  pub stored-stop : {s : Stop} → a ≡ Stored.Stopped s → stop (s .number) (s .place) ≡ o
-  stored-stop e = sym (ap storedOutcome e) ∙ h
+module _ {a : Checked} {o : Outcome (Unit {0})} (h : checkOutcome a ≡ o) where
+  pub told-stop : {s : Stop} → a ≡ Checked.Stopped s → stop (s .number) (s .place) ≡ o
+  told-stop e = sym (ap checkOutcome e) ∙ h
 
-  pub stored-done : a ≡ Stored.Done → done tt ≡ o
-  stored-done e = sym (ap storedOutcome e) ∙ h
-
-pub told-stop : {A : Type 0} {o : Outcome A} {n p : ℕ} → stop n p ≡ o → stop n p ≡ told o
-unfolding told
-told-stop {A} {o} {n} {p} e = ap told e
-
-pub told-done : {A : Type 0} {o : Outcome A} {x : A} → done x ≡ o → done tt ≡ told o
-unfolding told
-told-done {A} {o} {x} e = ap told e
+  pub told-good : a ≡ Checked.Good → done tt ≡ o
+  told-good e = sym (ap checkOutcome e) ∙ h

@@ -1,16 +1,15 @@
 -- The vector forms: their stops, and that each operation stops as its words' check does. Assumes nothing.
-use mathlib.Core.Path.{_≡_, refl, sym, ap, _∙_}
+use mathlib.Core.Path.{_≡_, refl}
 use mathlib.Core.Logic.{_⊎_, inl, inr}
-use mathlib.Core.Bool.{Bool, true, false, not, _&&_}
+use mathlib.Core.Bool.{true, false, and-false}
 use mathlib.Core.List.{List, map}
 use Prim.Native.Nat.{ℕ}
-use lib.Dec.{eqb}
 use lib.ListN.{length}
 use borrow.Author.Tests.{eq-eqb, ne-eqb}
 use Rattle.slash.specs.Answers.{Outcome, stop, done, _then_}
 use Rattle.slash.specs.declared.answer.Stop.{Stop}
 use Rattle.slash.specs.Formats.{known}
-use Rattle.slash.specs.Words.{readWord}
+use Rattle.slash.specs.Words.{numberOf, checkWord, readWord}
 use Rattle.slash.specs.declared.format.Format.{Format}
 use Rattle.slash.specs.declared.number.Number.{Number}
 use Rattle.arithmetic.specs.Binary.{isBinary, combined, combinedWords, binaryWord}
@@ -18,7 +17,7 @@ use Rattle.arithmetic.specs.Conversion.{convertWord}
 use Rattle.unary.specs.Unary.{isUnary, unaryWord}
 use Rattle.vectors.specs.Each.{each, vectorAfter, told, storedOutcome, EachPlace}
 use Rattle.vectors.specs.Vectors.{Operands, places, sameLength, binaryEach, unaryEach, convertEach, BestBinary, BestUnary, BestConverted}
-use Rattle.vectors.specs.Steps.{checks, checkWord, checkOperands, wordIn, binaryIn}
+use Rattle.vectors.specs.Steps.{checks, checkOperands, wordIn, binaryIn}
 use Rattle.vectors.specs.declared.stored.Stored.{Stored}
 use Rattle.vectors.specs.declared.stored.Stored.the-variants as Stored
 use Rattle.arithmetic.proofs.BinaryLaws.{binary-best}
@@ -28,22 +27,24 @@ use Rattle.vectors.proofs.EachLaws.{each-stopped, each-done}
 
 -- ---- what is told of steps
 
-one-step : (o : Outcome Number) (g : Number → ℕ) → told (o then λ x. done (g x)) ≡ told o
-unfolding told
-one-step (stop n p) g = refl
-one-step (done x) g = refl
+one-step : (f : Format) (w : ℕ) (g : Number → ℕ) → told (readWord f w then λ x. done (g x)) ≡ checkWord f w
+unfolding told readWord
+one-step f w g = go (checkWord f w)
+  where
+    go : (o : Outcome (Unit {0})) → told ((o then λ _. done (numberOf f w)) then λ x. done (g x)) ≡ o
+    go (stop n p) = refl
+    go (done u) = refl
 
-two-steps : (o p : Outcome Number) (g : Number → Number → ℕ) → told (o then λ x. p then λ y. done (g x y)) ≡ (told o then λ _. told p)
-unfolding told
-two-steps (stop n i) p g = refl
-two-steps (done x) (stop n i) g = refl
-two-steps (done x) (done y) g = refl
+two-steps : (f : Format) (v w : ℕ) (g : Number → Number → ℕ) → told (readWord f v then λ x. readWord f w then λ y. done (g x y)) ≡ (checkWord f v then λ _. checkWord f w)
+unfolding told readWord
+two-steps f v w g = go (checkWord f v) (checkWord f w)
+  where
+    go : (o p : Outcome (Unit {0})) → told ((o then λ _. done (numberOf f v)) then λ x. (p then λ _. done (numberOf f w)) then λ y. done (g x y)) ≡ (o then λ _. p)
+    go (stop n i) p = refl
+    go (done u) (stop n i) = refl
+    go (done u) (done t) = refl
 
 -- ---- binary operations
-
-and-false : (b : Bool) → (b && false) ≡ false
-and-false true = refl
-and-false false = refl
 
 module _ (f : Format) (code : ℕ) (left right out : List ℕ) where
   pub binary-each-format : known f ≡ false → stop 1 0 ≡ binaryEach f code left right out
@@ -67,8 +68,8 @@ module _ (f : Format) (code : ℕ) (left right out : List ℕ) where
       binary-each-all e g = rw (h, i, eq-eqb _ _ e, eq-eqb _ _ g) refl
 
 pub binary-agrees : (f : Format) (code : ℕ) → known f ≡ true → isBinary code ≡ true → (x : Operands) → told (binaryWord f code (x .left) (x .right)) ≡ checkOperands f x
-unfolding binaryWord combinedWords checkOperands checkWord
-binary-agrees f code h i x = rw (h, i) (two-steps (readWord f (x .left)) (readWord f (x .right)) (combined f code))
+unfolding binaryWord combinedWords checkOperands
+binary-agrees f code h i x = rw (h, i) (two-steps f (x .left) (x .right) (combined f code))
 
 module _ (f : Format) (code : ℕ) (left right out : List ℕ) where
   module _ (h : known f ≡ true) (i : isBinary code ≡ true) (e : length left ≡ length right) (g : length left ≡ length out) (res : Stored) (re : storedOutcome res ≡ checks (checkOperands f) 0 (places left right)) where
@@ -104,8 +105,8 @@ module _ (f : Format) (code : ℕ) (operand out : List ℕ) where
       unary-each-all e = rw (h, i, eq-eqb _ _ e) refl
 
 pub unary-agrees : (f : Format) (code : ℕ) → known f ≡ true → isUnary code ≡ true → (w : ℕ) → told (unaryWord f code w) ≡ checkWord f w
-unfolding unaryWord checkWord
-unary-agrees f code h i w = rw (h, i) (one-step (readWord f w) _)
+unfolding unaryWord
+unary-agrees f code h i w = rw (h, i) (one-step f w _)
 
 module _ (f : Format) (code : ℕ) (operand out : List ℕ) where
   module _ (h : known f ≡ true) (i : isUnary code ≡ true) (e : length operand ≡ length out) (res : Stored) (re : storedOutcome res ≡ checks (checkWord f) 0 (operand)) where
@@ -141,8 +142,8 @@ module _ (f g : Format) (operand out : List ℕ) where
       convert-each-all e = rw (h, i, eq-eqb _ _ e) refl
 
 pub convert-agrees : (f g : Format) → known f ≡ true → known g ≡ true → (w : ℕ) → told (convertWord f g w) ≡ checkWord f w
-unfolding convertWord checkWord
-convert-agrees f g h i w = rw (h, i) (one-step (readWord f w) _)
+unfolding convertWord
+convert-agrees f g h i w = rw (h, i) (one-step f w _)
 
 module _ (f g : Format) (operand out : List ℕ) where
   module _ (h : known f ≡ true) (i : known g ≡ true) (e : length operand ≡ length out) (res : Stored) (re : storedOutcome res ≡ checks (checkWord f) 0 (operand)) where

@@ -2,10 +2,10 @@
 use Prim.Native.Nat.{ℕ, suc}
 use mathlib.Core.List.{List, [], _∷_}
 use Rattle.slash.specs.Answers.{Outcome, stop, done, _then_}
-use Rattle.slash.specs.Words.{readWord}
+use Rattle.slash.specs.Words.{checkWord}
 use Rattle.slash.specs.declared.format.Format.{Format}
 use Rattle.arithmetic.specs.Binary.{binaryWord}
-use Rattle.vectors.specs.Each.{atPlace, told}
+use Rattle.vectors.specs.Each.{atPlace}
 use Rattle.vectors.specs.Vectors.{Operands}
 
 -- A check at each place, from place i on.
@@ -15,10 +15,7 @@ checks check i (x ∷ xs) =
     atPlace i (check x) then λ _.
     checks check (suc i) xs
 
--- One word, or the two at a place, the left one first.
-unfoldable pub checkWord : Format → ℕ → Outcome (Unit {0})
-checkWord f w = told (readWord f w)
-
+-- The words at a place of two vectors, the left one first.
 unfoldable pub checkOperands : Format → Operands → Outcome (Unit {0})
 checkOperands f x = checkWord f (x .left) then λ _. checkWord f (x .right)
 

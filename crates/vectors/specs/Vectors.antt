@@ -6,7 +6,7 @@ use lib.Dec.{eqb}
 use lib.ListN.{length}
 use Rattle.convergents.specs.Choice.{if_then_else_}
 use Rattle.slash.specs.Answers.{Outcome, stop}
-use Rattle.slash.specs.Formats.{known}
+use Rattle.slash.specs.Formats.{whenKnown}
 use Rattle.slash.specs.Words.{numberOf, BestWord}
 use Rattle.slash.specs.declared.format.Format.{Format}
 use Rattle.arithmetic.specs.Binary.{isBinary, exactValue, binaryWord}
@@ -34,25 +34,25 @@ sameLength xs ys = eqb (length xs) (length ys)
 -- operand's before the right one's.
 unfoldable pub binaryEach : Format → ℕ → (left right out : List ℕ) → Outcome (List ℕ)
 binaryEach f code left right out =
-    if not (known f) then stop 1 0 else
+    whenKnown f (
     if not (isBinary code) then stop 2 0 else
     if not (sameLength left right && sameLength left out) then stop 3 0 else
-    each (λ x. binaryWord f code (x .left) (x .right)) 0 (places left right)
+    each (λ x. binaryWord f code (x .left) (x .right)) 0 (places left right))
 
 unfoldable pub unaryEach : Format → ℕ → (operand out : List ℕ) → Outcome (List ℕ)
 unaryEach f code operand out =
-    if not (known f) then stop 1 0 else
+    whenKnown f (
     if not (isUnary code) then stop 2 0 else
     if not (sameLength operand out) then stop 3 0 else
-    each (unaryWord f code) 0 operand
+    each (unaryWord f code) 0 operand)
 
 -- Stop 1 for the source format and then for the target's.
 unfoldable pub convertEach : (source target : Format) → (operand out : List ℕ) → Outcome (List ℕ)
 convertEach source target operand out =
-    if not (known source) then stop 1 0 else
-    if not (known target) then stop 1 0 else
+    whenKnown source (
+    whenKnown target (
     if not (sameLength operand out) then stop 3 0 else
-    each (convertWord source target) 0 operand
+    each (convertWord source target) 0 operand))
 
 -- Demand 3, of the operands and the word at a place.
 unfoldable pub BestBinary : Format → ℕ → Operands → ℕ → Type 0

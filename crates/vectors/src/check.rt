@@ -1,30 +1,23 @@
 // The words of vectors checked, lowest place first.
 ghost use mathlib.Core.Path.{_≡_};
 ghost use lib.ListN.{length};
+ghost use Rattle.slash.specs.Answers.{checkOutcome};
+ghost use Rattle.slash.specs.Words.{checkWord};
 ghost use Rattle.vectors.specs.Each.{storedOutcome};
 ghost use Rattle.vectors.specs.Vectors.{operands, places};
-ghost use Rattle.vectors.specs.Steps.{checks, checkWord, checkOperands};
+ghost use Rattle.vectors.specs.Steps.{checks, checkOperands};
 use crate::stored::Stored;
+use slash::Checked;
 use slash::Format;
-use slash::Reading;
 use slash::Stop;
 
-fn word(f: Format, w: u64) -> Stored
-    ensures { λ r. ⌜ storedOutcome r ≡ checkWord f w ⌝ }
-{
-    match slash::read(f, w) {
-        Reading::Stopped(s) => Stored::Stopped(s),
-        Reading::Done(_) => Stored::Done,
-    }
-}
-
 // The left word before the right one.
-fn pair(f: Format, left: u64, right: u64) -> Stored
-    ensures { λ r. ⌜ storedOutcome r ≡ checkOperands f (operands left right) ⌝ }
+fn pair(f: Format, left: u64, right: u64) -> Checked
+    ensures { λ r. ⌜ checkOutcome r ≡ checkOperands f (operands left right) ⌝ }
 {
-    match word(f, left) {
-        Stored::Stopped(s) => Stored::Stopped(s),
-        Stored::Done => word(f, right),
+    match slash::check(f, left) {
+        Checked::Stopped(s) => Checked::Stopped(s),
+        Checked::Good => slash::check(f, right),
     }
 }
 
@@ -43,11 +36,11 @@ pub(crate) fn words(f: Format, operand: &[u64]) -> Stored
 {
     let mut i = 0;
     while i < operand.len() {
-        match word(f, operand[i]) {
-            Stored::Stopped(s) => {
+        match slash::check(f, operand[i]) {
+            Checked::Stopped(s) => {
                 return at_place(s, i);
             }
-            Stored::Done => {
+            Checked::Good => {
                 i += 1;
             }
         }
@@ -63,10 +56,10 @@ pub(crate) fn pairs(f: Format, left: &[u64], right: &[u64]) -> Stored
     let mut i = 0;
     while i < left.len() {
         match pair(f, left[i], right[i]) {
-            Stored::Stopped(s) => {
+            Checked::Stopped(s) => {
                 return at_place(s, i);
             }
-            Stored::Done => {
+            Checked::Good => {
                 i += 1;
             }
         }

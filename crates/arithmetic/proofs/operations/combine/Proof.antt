@@ -1,20 +1,40 @@
 -- `arithmetic::operations::combine` meets its contract. Assumes nothing.
 use Rattle.arithmetic.proofs.BinaryLaws.{combine-done}
-use mathlib.Core.Path.{refl}
+use Rattle.arithmetic.proofs.OperandLaws.{checked-operand}
 use borrow.Author.Needs.{needs}
 use Rattle.arithmetic.proofs.operations.combine.Statement.{statement}
 use Rattle.arithmetic.proofs.operations.combine.Tie as tie
 
+value-requires : tie.Need-value-requires
+value-requires c κs = search needs
+
+value-requires-2 : tie.Need-value-requires-2
+value-requires-2 c κs = search needs
+
 exact-value-requires : tie.Need-exact-value-requires
-exact-value-requires c κs = search needs
+exact-value-requires c κs = (checked-operand _ _ (c .before .before .pre .0) _ (c .before .value .ensures), checked-operand _ _ (c .before .before .pre .1) _ (c .value2 .ensures))
+
+is-approximate-requires : tie.Need-is-approximate-requires
+is-approximate-requires c κs = search needs
+
+is-approximate-requires-2 : tie.Need-is-approximate-requires-2
+is-approximate-requires-2 c κs = search needs
 
 write-requires : tie.Need-write-requires
 write-requires c κs = search needs
 
 returns : tie.Need-returns
-returns c =
-    let pre = c .before .before .before .before .pre in
-    combine-done _ _ _ _ _ _ _ (pre .0) (pre .1) (pre .2) (c .before .before .before .exact-value .ensures) refl (c .write .ensures)
+returns c = combine-done _ _ _ _ (c .before .before .before .before .before .before .pre .0) (c .before .before .before .before .before .before .pre .1) _ _ _ _ _ _ (c .before .before .before .before .before .value .ensures) (c .before .before .before .before .value2 .ensures) (c .before .before .before .exact-value .ensures)
+    (c .before .before .is-approximate .ensures) (c .before .is-approximate2 .ensures) (c .write .ensures)
 
 pub combine-spec : {M : Type 1} → statement M
-combine-spec = tie.close (tie.spec exact-value-requires write-requires returns)
+combine-spec =
+    tie.close
+    (tie.spec
+    value-requires
+    value-requires-2
+    exact-value-requires
+    is-approximate-requires
+    is-approximate-requires-2
+    write-requires
+    returns)

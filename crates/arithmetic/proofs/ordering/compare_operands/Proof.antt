@@ -1,6 +1,6 @@
 -- `arithmetic::ordering::compare_operands` meets its contract. Assumes nothing.
 use Rattle.slash.proofs.AnswerLaws.{at-both}
-use Rattle.arithmetic.proofs.OperandLaws.{small-finite, products, Products}
+use Rattle.arithmetic.proofs.OperandLaws.{small-finite, products}
 use Rattle.arithmetic.specs.Comparison.{compareOf}
 use native.Mathlib.Omega.{arith}
 use mathlib.Core.Path.{refl, _∙_}
@@ -25,7 +25,10 @@ mul-signed-order-2 c =
     omega (arith, products (small-finite (c .before .before .before .before .before .y .given .1) (pre .1)) (small-finite (c .before .before .before .before .before .before .before .before .x .given .1) (pre .0)))
 
 signed-order-requires : tie.Need-signed-order-requires
-signed-order-requires c κs = search needs
+signed-order-requires c κs = let pre = c .before .before .before .before .before .before .before .before .before .before .pre in
+    let p = small-finite (c .before .before .before .before .before .before .before .before .x .given .1) (pre .0) in
+    let q = small-finite (c .before .before .before .before .before .y .given .1) (pre .1) in
+    (products p q .ad, products q p .ad)
 
 enum-known-y-2 : tie.Need-enum-known-y-2
 enum-known-y-2 c = search needs

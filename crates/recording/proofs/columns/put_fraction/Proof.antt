@@ -6,15 +6,15 @@ use Rattle.recording.proofs.columns.put_fraction.Tie as tie
 
 put-decimal-requires : tie.Need-put-decimal-requires
 unfolding fractionText
-put-decimal-requires c κs = room-first _ (room-first _ (c .before .before .pre))
+put-decimal-requires c κs = (c .before .before .pre .0, room-first _ (room-first _ (c .before .before .pre .2)))
 
 put-byte-requires : tie.Need-put-byte-requires
 unfolding fractionText
-put-byte-requires c κs = room-rest (room-first _ (c .before .before .before .before .before .before .pre)) (c .before .before .before .put-decimal .ensures)
+put-byte-requires c κs = room-rest (room-first _ (c .before .before .before .before .before .before .pre .2)) (c .before .before .before .put-decimal .ensures)
 
 put-decimal-requires-2 : tie.Need-put-decimal-requires-2
 unfolding fractionText
-put-decimal-requires-2 c κs = room-rest (c .before .before .before .before .before .before .before .before .before .before .pre) (chain (c .before .before .before .before .before .before .before .put-decimal .ensures) (c .before .before .before .put-byte .ensures))
+put-decimal-requires-2 c κs = (c .before .before .before .before .before .before .before .before .before .before .pre .1, room-rest (c .before .before .before .before .before .before .before .before .before .before .pre .2) (chain (c .before .before .before .before .before .before .before .put-decimal .ensures) (c .before .before .before .put-byte .ensures)))
 
 same-length : tie.Need-same-length
 same-length c = stored-length (chain (chain (c .before .before .before .before .before .before .before .before .before .before .put-decimal .ensures) (c .before .before .before .before .before .before .put-byte .ensures)) (c .before .before .put-decimal2 .ensures))

@@ -1,29 +1,37 @@
 -- `recording::columns::put_percentage` meets its contract. Assumes nothing.
-use Rattle.recording.proofs.TextLaws.{stored-length, chain, room-rest, room-first}
-use Rattle.recording.specs.Columns.{percentage}
+use Rattle.recording.proofs.ColumnLaws.{percentage-digits}
+use Rattle.recording.proofs.TextLaws.{stored-length, stored-as, chain, room-rest, room-first, room-as}
+use native.Mathlib.Omega.{arith}
+use mathlib.Core.Path.{refl, sym}
+use borrow.Author.Needs.{needs}
 use Rattle.recording.proofs.columns.put_percentage.Statement.{statement}
 use Rattle.recording.proofs.columns.put_percentage.Tie as tie
 
 put-decimal-requires : tie.Need-put-decimal-requires
-unfolding percentage
-put-decimal-requires c κs = room-first _ (room-first _ (c .before .before .pre))
+put-decimal-requires c κs = (omega (arith, c .before .before .pre .0), room-first _ (room-first _ (room-as (sym (percentage-digits _ _ refl)) (c .before .before .pre .1))))
 
 put-byte-requires : tie.Need-put-byte-requires
-unfolding percentage
-put-byte-requires c κs = room-rest (room-first _ (c .before .before .before .before .before .before .pre)) (c .before .before .before .put-decimal .ensures)
+put-byte-requires c κs = room-rest (room-first _ (room-as (sym (percentage-digits _ _ refl)) (c .before .before .before .before .before .before .pre .1))) (c .before .before .before .put-decimal .ensures)
 
-put-decimal-requires-2 : tie.Need-put-decimal-requires-2
-unfolding percentage
-put-decimal-requires-2 c κs = room-rest (c .before .before .before .before .before .before .before .before .before .before .pre) (chain (c .before .before .before .before .before .before .before .put-decimal .ensures) (c .before .before .before .put-byte .ensures))
+digit-requires : tie.Need-digit-requires
+digit-requires c κs = search needs
+
+put-byte-requires-2 : tie.Need-put-byte-requires-2
+put-byte-requires-2 c κs = room-rest (room-as (sym (percentage-digits _ _ (c .digit .ensures))) (c .before .before .before .before .before .before .before .before .before .before .before .pre .1)) (chain (c .before .before .before .before .before .before .before .before .put-decimal .ensures) (c .before .before .before .before .put-byte .ensures))
 
 same-length : tie.Need-same-length
-same-length c = stored-length (chain (chain (c .before .before .before .before .before .before .before .before .before .before .put-decimal .ensures) (c .before .before .before .before .before .before .put-byte .ensures)) (c .before .before .put-decimal2 .ensures))
+same-length c = stored-length (chain (chain (c .before .before .before .before .before .before .before .before .before .before .before .put-decimal .ensures) (c .before .before .before .before .before .before .before .put-byte .ensures)) (c .before .before .put-byte2 .ensures))
 
 returns : tie.Need-returns
-unfolding percentage
-returns c = chain (chain (c .before .before .before .before .before .before .before .before .before .before .put-decimal .ensures) (c .before .before .before .before .before .before .put-byte .ensures)) (c .before .before .put-decimal2 .ensures)
+returns c = stored-as (percentage-digits _ _ (c .before .before .before .digit .ensures)) (chain (chain (c .before .before .before .before .before .before .before .before .before .before .before .put-decimal .ensures) (c .before .before .before .before .before .before .before .put-byte .ensures)) (c .before .before .put-byte2 .ensures))
 
 pub put-percentage-spec : {M : Type 1} → statement M
 put-percentage-spec =
     tie.close
-    (tie.spec put-decimal-requires put-byte-requires put-decimal-requires-2 same-length returns)
+    (tie.spec
+    put-decimal-requires
+    put-byte-requires
+    digit-requires
+    put-byte-requires-2
+    same-length
+    returns)

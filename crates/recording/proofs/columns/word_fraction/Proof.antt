@@ -1,42 +1,28 @@
 -- `recording::columns::word_fraction` meets its contract. Assumes nothing.
-use Rattle.recording.proofs.ColumnLaws.{fraction-read, fraction-stop}
+use Rattle.recording.proofs.ColumnLaws.{fraction-parts, fraction-small}
+use native.Mathlib.Omega.{arith}
 use borrow.Author.Needs.{needs}
 use Rattle.recording.proofs.columns.word_fraction.Statement.{statement}
 use Rattle.recording.proofs.columns.word_fraction.Tie as tie
 
-stored-format-requires : tie.Need-stored-format-requires
-stored-format-requires c κs = search needs
+format-requires : tie.Need-format-requires
+format-requires c κs = search needs
 
-read-requires : tie.Need-read-requires
-read-requires c κs = search needs
+value-requires : tie.Need-value-requires
+value-requires c κs = search needs
 
-enum-known-x : tie.Need-enum-known-x
-enum-known-x c = search needs
+parts-of-requires : tie.Need-parts-of-requires
+parts-of-requires c κs = search needs
 
-as-fraction-requires : tie.Need-as-fraction-requires
-as-fraction-requires c κs = search needs
+cast-t5 : tie.Need-cast-t5
+cast-t5 c = omega (arith, fraction-small _ _ (c .before .before .before .format .ensures) _ (c .before .before .value .ensures) _ (c .before .parts-of .ensures) (c .before .before .before .before .pre))
 
-enum-told : tie.Need-enum-told
-enum-told c = search needs
-
-as-fraction-requires-2 : tie.Need-as-fraction-requires-2
-as-fraction-requires-2 c κs = search needs
+cast-t6 : tie.Need-cast-t6
+cast-t6 c = omega (arith, fraction-small _ _ (c .before .before .before .before .format .ensures) _ (c .before .before .before .value .ensures) _ (c .before .before .parts-of .ensures) (c .before .before .before .before .before .pre))
 
 returns : tie.Need-returns
-returns c = fraction-read _ _ (c .before .before .before .before .before .before .pre) (c .before .before .before .before .before .stored-format .ensures) _ (c .before .before .before .before .read .ensures) _ (c .before .before .x .given .1) _ (c .as-fraction .ensures)
-
-returns-2 : tie.Need-returns-2
-returns-2 c = absurd (fraction-stop _ _ (c .before .before .before .before .before .pre) (c .before .before .before .before .stored-format .ensures) _ (c .before .before .before .read .ensures) _ (c .before .enum-told .given .1))
+returns c = fraction-parts _ _ (c .before .before .before .before .format .ensures) _ (c .before .before .before .value .ensures) _ (c .before .before .parts-of .ensures)
 
 pub word-fraction-spec : {M : Type 1} → statement M
 word-fraction-spec =
-    tie.close
-    (tie.spec
-    stored-format-requires
-    read-requires
-    enum-known-x
-    as-fraction-requires
-    enum-told
-    as-fraction-requires-2
-    returns
-    returns-2)
+    tie.close (tie.spec format-requires value-requires parts-of-requires cast-t5 cast-t6 returns)

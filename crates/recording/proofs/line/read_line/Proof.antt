@@ -1,46 +1,28 @@
 -- `recording::line::read_line` meets its contract. Assumes nothing.
-use lib.ListN.{length-take}
-use Rattle.recording.proofs.LineLaws.{line-none, line-some, line-within}
-use native.Mathlib.Omega.{arith}
-use lib.Seq.{length-take-le}
-use mathlib.Core.Path.{sym}
+use Rattle.recording.proofs.StartLaws.{sought}
 use borrow.Author.Needs.{needs}
 use Rattle.recording.proofs.line.read_line.Statement.{statement}
 use Rattle.recording.proofs.line.read_line.Tie as tie
 
-least-requires : tie.Need-least-requires
-least-requires c κs = search needs
+read-breath-requires : tie.Need-read-breath-requires
+read-breath-requires c κs = search needs
 
-slice-aggregate-head : tie.Need-slice-aggregate-head
-slice-aggregate-head c = sym (length-take-le _ _ (omega (arith, c .before .least .ensures)))
+enum-known-entry : tie.Need-enum-known-entry
+enum-known-entry c = search needs
 
-length-before-requires : tie.Need-length-before-requires
-length-before-requires c κs = search needs
+enum-told : tie.Need-enum-told
+enum-told c = search needs
+
+read-any-requires : tie.Need-read-any-requires
+read-any-requires c κs = search needs
 
 returns : tie.Need-returns
-returns c = line-none _ _ (c .before .before .before .least .ensures) _ (c .before .length-before .ensures .1) (c .if1 .taken)
-
-add-read-fields : tie.Need-add-read-fields
-add-read-fields c = omega (arith, length-take (c .before .before .before .least .result) (c .before .before .before .before .before .args .bytes .now))
-
-slice-aggregate-read-fields : tie.Need-slice-aggregate-read-fields
-slice-aggregate-read-fields c = sym (length-take-le _ _ (line-within (c .before .before .before .before .before .before .args .bytes .now) (c .before .before .before .before .least .result) _ (c .before .before .length-before .ensures .0)))
-
-read-fields-requires : tie.Need-read-fields-requires
-read-fields-requires c κs = search needs
+returns c = sought _ _ (c .before .before .before .read-breath .ensures) _ (c .before .entry .given .1)
 
 returns-2 : tie.Need-returns-2
-returns-2 c = line-some _ _ (c .before .before .before .before .before .least .ensures) _ (c .before .before .before .length-before .ensures .1) (omega (arith, c .before .before .before .length-before .ensures .0)) _ (c .read-fields .ensures)
+returns-2 c = search needs
 
 pub read-line-spec : {M : Type 1} → statement M
 read-line-spec =
     tie.close
-    (tie.spec
-    least-requires
-    slice-aggregate-head
-    length-before-requires
-    returns
-    add-read-fields
-    slice-aggregate-read-fields
-    read-fields-requires
-    returns-2)
+    (tie.spec read-breath-requires enum-known-entry enum-told read-any-requires returns returns-2)

@@ -2,8 +2,8 @@
 use Rattle.recording.proofs.ListingLaws.{all-line, all-room}
 use Rattle.recording.proofs.ListingLaws.{all-line}
 use Rattle.recording.proofs.TextLaws.{stored-length, chain, room-rest, room-first, room-as, stored-as}
-use Rattle.recording.proofs.RatioLaws.{night-shown}
-use Rattle.recording.specs.Stores.{ShownRatio}
+use Rattle.breaths.proofs.RatioLaws.{night-shown}
+use Rattle.breaths.specs.Shown.{ShownRatio}
 use mathlib.Core.Path.{sym, subst}
 use borrow.Author.Needs.{needs}
 use Rattle.recording.proofs.listing.put_all.Statement.{statement}

@@ -16,7 +16,7 @@ abbrev μ-loop : tie.MeasureT-loop
 μ-loop bytes out₀ at₀ from₀ number₀ sums₀ out at from number sums = length bytes - from
 
 put-refused-requires : tie.Need-put-refused-requires Inv-loop μ-loop
-put-refused-requires c κs = room-none _ (c .before .before .before .before .pre)
+put-refused-requires c κs = (omega arith, omega arith, room-none _ (c .before .before .before .before .pre))
 
 same-length : tie.Need-same-length Inv-loop μ-loop
 same-length c = stored-length (c .before .before .put-refused .ensures)
@@ -28,7 +28,7 @@ loop-holds : tie.Need-loop-holds Inv-loop μ-loop
 loop-holds c = listing-start _ _ (c .if1 .left)
 
 put-refused-requires-2 : tie.Need-put-refused-requires-2 Inv-loop μ-loop
-put-refused-requires-2 c κs = room-refused (c .before .before .before .loop .inv) (c .before .before .before .before .before .before .before .pre) 8 (omega arith)
+put-refused-requires-2 c κs = (omega arith, omega (arith, c .before .before .before .loop .inv .few), room-refused (c .before .before .before .loop .inv) (c .before .before .before .before .before .before .before .pre) 8 (omega arith))
 
 same-length-2 : tie.Need-same-length-2 Inv-loop μ-loop
 same-length-2 c = stored-length (c .before .before .put-refused2 .ensures) ∙ c .before .before .before .before .before .before .loop .inv .long
@@ -52,7 +52,9 @@ enum-known-stop : tie.Need-enum-known-stop Inv-loop μ-loop
 enum-known-stop c = search needs
 
 put-refused-requires-3 : tie.Need-put-refused-requires-3 Inv-loop μ-loop
-put-refused-requires-3 c κs = room-refused (c .before .before .before .before .before .before .before .before .loop .inv) (c .before .before .before .before .before .before .before .before .before .before .before .before .pre) _ (stop-small (c .before .before .before .before .before .before .before .before .loop .inv) (c .before .before .before .before .before .before .before .loop-test .taken) (c .before .before .before .before .before .before .if2 .left) _ (sym (c .before .before .before .before .read-line .ensures) ∙ c .before .before .stop .given .1))
+put-refused-requires-3 c κs =
+    let small = stop-small (c .before .before .before .before .before .before .before .before .loop .inv) (c .before .before .before .before .before .before .before .loop-test .taken) (c .before .before .before .before .before .before .if2 .left) _ (sym (c .before .before .before .before .read-line .ensures) ∙ c .before .before .stop .given .1) in
+    (small, omega (arith, c .before .before .before .before .before .before .before .before .loop .inv .few), room-refused (c .before .before .before .before .before .before .before .before .loop .inv) (c .before .before .before .before .before .before .before .before .before .before .before .before .pre) _ small)
 
 same-length-3 : tie.Need-same-length-3 Inv-loop μ-loop
 same-length-3 c = stored-length (c .before .before .put-refused3 .ensures) ∙ c .before .before .before .before .before .before .before .before .before .before .before .loop .inv .long
@@ -64,10 +66,10 @@ enum-known-entry : tie.Need-enum-known-entry Inv-loop μ-loop
 enum-known-entry c = search needs
 
 put-breath-requires : tie.Need-put-breath-requires Inv-loop μ-loop
-put-breath-requires c κs = room-breath (c .before .before .before .before .before .before .before .before .before .loop .inv) (c .before .before .before .before .before .before .before .before .before .before .before .before .before .pre) (c .before .before .before .before .before .before .before .if2 .left) _
+put-breath-requires c κs = (omega (arith, c .before .before .before .before .before .before .before .if2 .left), room-breath (c .before .before .before .before .before .before .before .before .before .loop .inv) (c .before .before .before .before .before .before .before .before .before .before .before .before .before .pre) (c .before .before .before .before .before .before .before .if2 .left) _)
 
-with-requires : tie.Need-with-requires Inv-loop μ-loop
-with-requires c κs = listing-sums (c .before .before .before .before .before .before .before .before .before .before .before .before .loop .inv)
+with-breath-requires : tie.Need-with-breath-requires Inv-loop μ-loop
+with-breath-requires c κs = listing-sums (c .before .before .before .before .before .before .before .before .before .before .before .before .loop .inv)
 
 add-from : tie.Need-add-from Inv-loop μ-loop
 add-from c = omega (arith, listing-used (c .before .before .before .before .before .before .before .before .before .before .before .before .before .before .loop .inv) (c .before .before .before .before .before .before .before .before .before .before .before .before .before .loop-test .taken) (c .before .before .before .before .before .before .before .before .before .before .before .before .if2 .left) _ (sym (c .before .before .before .before .before .before .before .before .before .before .read-line .ensures) ∙ c .before .before .before .before .before .before .before .before .entry .given .1) .1)
@@ -80,7 +82,7 @@ loop-less c = omega (arith, listing-used (c .before .before .before .before .bef
 
 loop-again : tie.Need-loop-again Inv-loop μ-loop
 loop-again c =
-    listing-again (c .before .before .before .before .before .before .before .before .before .before .before .before .before .before .loop .inv) (c .before .before .before .before .before .before .before .before .before .before .before .before .before .loop-test .taken) (c .before .before .before .before .before .before .before .before .before .before .before .before .if2 .left) _ (sym (c .before .before .before .before .before .before .before .before .before .before .read-line .ensures) ∙ c .before .before .before .before .before .before .before .before .entry .given .1) _ (c .before .with .ensures) (c .before .before .before .before .put-breath .ensures)
+    listing-again (c .before .before .before .before .before .before .before .before .before .before .before .before .before .before .loop .inv) (c .before .before .before .before .before .before .before .before .before .before .before .before .before .loop-test .taken) (c .before .before .before .before .before .before .before .before .before .before .before .before .if2 .left) _ (sym (c .before .before .before .before .before .before .before .before .before .before .read-line .ensures) ∙ c .before .before .before .before .before .before .before .before .entry .given .1) _ (c .before .with-breath .ensures) (c .before .before .before .before .put-breath .ensures)
 
 put-all-requires : tie.Need-put-all-requires Inv-loop μ-loop
 put-all-requires c κs = (c .before .before .loop .inv .proper, room-all (c .before .before .loop .inv) (c .before .before .before .before .before .before .pre))
@@ -114,7 +116,7 @@ put-lines-spec =
     returns-3
     enum-known-entry
     put-breath-requires
-    with-requires
+    with-breath-requires
     add-from
     add-number
     loop-less

@@ -1,22 +1,42 @@
 -- `slash::fixed::value` meets its contract. Assumes nothing.
-use Rattle.slash.proofs.WordLaws.{fixed-zero, fixed-nan-zero, fixed-infinity, fixed-nan-infinity, fixed-fraction}
+use Rattle.slash.proofs.WordLaws.{fixed-number}
+use borrow.Author.Needs.{needs}
 use Rattle.slash.proofs.fixed.value.Statement.{statement}
 use Rattle.slash.proofs.fixed.value.Tie as tie
 
+mul-flag : tie.Need-mul-flag
+mul-flag c = search needs
+
+add-flag : tie.Need-add-flag
+add-flag c = search needs
+
+flag-requires : tie.Need-flag-requires
+flag-requires c κs = search needs
+
+add-field : tie.Need-add-field
+add-field c = search needs
+
+field-requires : tie.Need-field-requires
+field-requires c κs = search needs
+
+field-requires-2 : tie.Need-field-requires-2
+field-requires-2 c κs = search needs
+
+parts-value-requires : tie.Need-parts-value-requires
+parts-value-requires c κs = search needs
+
 returns : tie.Need-returns
-returns c = fixed-zero _ _ _ (c .before .if1 .taken) (c .if2 .taken)
-
-returns-2 : tie.Need-returns-2
-returns-2 c = fixed-nan-zero _ _ _ (c .before .if1 .taken) (c .if2 .left)
-
-returns-3 : tie.Need-returns-3
-returns-3 c = fixed-infinity _ _ _ (c .before .before .if1 .left) (c .before .if3 .taken) (c .if4 .taken)
-
-returns-4 : tie.Need-returns-4
-returns-4 c = fixed-nan-infinity _ _ _ (c .before .before .if1 .left) (c .before .if3 .taken) (c .if4 .left)
-
-returns-5 : tie.Need-returns-5
-returns-5 c = fixed-fraction _ _ _ (c .before .if1 .left) (c .if3 .left)
+returns c = fixed-number _ _ _ _ _ _ (c .before .before .before .flag .ensures) (c .before .before .field .ensures) (c .before .field2 .ensures) (c .parts-value .ensures)
 
 pub value-spec : {M : Type 1} → statement M
-value-spec = tie.close (tie.spec returns returns-2 returns-3 returns-4 returns-5)
+value-spec =
+    tie.close
+    (tie.spec
+    mul-flag
+    add-flag
+    flag-requires
+    add-field
+    field-requires
+    field-requires-2
+    parts-value-requires
+    returns)

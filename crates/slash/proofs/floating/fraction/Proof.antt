@@ -1,6 +1,5 @@
 -- `slash::floating::fraction` meets its contract. Assumes nothing.
-use Rattle.slash.proofs.WordLaws.{floating-zero, parted-fraction, parted-sum}
-use mathlib.Core.Path.{refl}
+use Rattle.slash.proofs.WordLaws.{floating-zero, parted-most, parted-fraction}
 use borrow.Author.Needs.{needs}
 use Rattle.slash.proofs.floating.fraction.Statement.{statement}
 use Rattle.slash.proofs.floating.fraction.Tie as tie
@@ -8,22 +7,20 @@ use Rattle.slash.proofs.floating.fraction.Tie as tie
 shr-n : tie.Need-shr-n
 shr-n c = search needs
 
-field-requires : tie.Need-field-requires
-field-requires c κs = search needs
+sub-t7 : tie.Need-sub-t7
+sub-t7 c = search needs
 
-power-requires : tie.Need-power-requires
-power-requires c κs = search needs
+shl-t8 : tie.Need-shl-t8
+shl-t8 c = search needs
 
-add-t9 : tie.Need-add-t9
-add-t9 c =
-    let start = c .before .before .before in
-    record { fits = parted-sum (start .args .negative) (start .args .e) (start .args .f) _ (c .power .ensures) _ (c .before .field .ensures) (start .pre) }
+sub-t9 : tie.Need-sub-t9
+sub-t9 c = parted-most (c .before .args .negative) _ _ (c .if1 .left) (c .before .pre .1)
 
 returns : tie.Need-returns
-returns c = floating-zero _ _ _ _ refl (c .if1 .taken)
+returns c = floating-zero _ _ _ (c .if1 .taken)
 
 returns-2 : tie.Need-returns-2
-returns-2 c = parted-fraction _ _ _ _ (c .power .ensures) _ (c .before .field .ensures) (c .before .before .if1 .left)
+returns-2 c = parted-fraction _ _ _ (c .if1 .left) (c .before .pre .1)
 
 pub fraction-spec : {M : Type 1} → statement M
-fraction-spec = tie.close (tie.spec shr-n field-requires power-requires add-t9 returns returns-2)
+fraction-spec = tie.close (tie.spec shr-n sub-t7 shl-t8 sub-t9 returns returns-2)

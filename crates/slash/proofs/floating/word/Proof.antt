@@ -2,17 +2,17 @@
 use Rattle.slash.proofs.WordLaws.{special-lt, pair-infinity, pair-fraction, Parted, parted}
 use Rattle.slash.proofs.BitLaws.{bit-lt, bit-count-pos}
 use lib.Pow.{pow-pos}
-use Prim.Native.Nat.{_-_, ℕ}
+use Prim.Native.Nat.{_-_}
 use native.Mathlib.Omega.{arith}
 use borrow.Author.Needs.{needs}
 use Rattle.slash.proofs.floating.word.Statement.{statement}
 use Rattle.slash.proofs.floating.word.Tie as tie
 
-set-bit-requires : tie.Need-set-bit-requires
-set-bit-requires c κs = search needs
+bit-of-requires : tie.Need-bit-of-requires
+bit-of-requires c κs = search needs
 
-set-bit-requires-2 : tie.Need-set-bit-requires-2
-set-bit-requires-2 c κs = search needs
+bit-of-requires-2 : tie.Need-bit-of-requires-2
+bit-of-requires-2 c κs = search needs
 
 special-position-requires : tie.Need-special-position-requires
 special-position-requires c κs = search needs
@@ -21,11 +21,11 @@ from-fields-requires : tie.Need-from-fields-requires
 from-fields-requires c κs =
     let a = c .before .before .before .before .args in
     let pre = c .before .before .before .before .pre in
-    (pre .0, pre .1, omega (arith, c .before .before .before .set-bit .ensures, bit-lt (a .negative)), omega (arith, c .before .before .set-bit2 .ensures, bit-lt (a .approximate)), special-lt _ _ (c .special-position .ensures), pow-pos (a .k - 1))
+    (pre .0, pre .1, omega (arith, c .before .before .before .bit-of .ensures, bit-lt (a .negative)), omega (arith, c .before .before .bit-of2 .ensures, bit-lt (a .approximate)), special-lt _ _ (c .special-position .ensures), pow-pos (a .k - 1))
 
 returns : tie.Need-returns
 returns c =
-    pair-infinity _ _ _ _ _ (c .before .before .if1 .taken) _ _ _ _ (c .before .before .before .before .set-bit .ensures) (c .before .before .before .set-bit2 .ensures)
+    pair-infinity _ _ _ _ _ (c .before .before .if1 .taken) _ _ _ _ (c .before .before .before .before .bit-of .ensures) (c .before .before .before .bit-of2 .ensures)
     (c .before .special-position .ensures) (c .from-fields .ensures)
 
 bit-count-requires : tie.Need-bit-count-requires
@@ -60,19 +60,19 @@ from-fields-requires-2 : tie.Need-from-fields-requires-2
 from-fields-requires-2 c κs =
     let a = c .before .before .before .before .before .args in
     let pre = c .before .before .before .before .before .pre in
-    (pre .0, pre .1, omega (arith, c .before .before .before .before .set-bit .ensures, bit-lt (a .negative)), omega (arith, c .before .before .before .set-bit2 .ensures, bit-lt (a .approximate)), parts c .position, parts c .fits)
+    (pre .0, pre .1, omega (arith, c .before .before .before .before .bit-of .ensures, bit-lt (a .negative)), omega (arith, c .before .before .before .bit-of2 .ensures, bit-lt (a .approximate)), parts c .position, parts c .fits)
 
 returns-2 : tie.Need-returns-2
 returns-2 c =
-    pair-fraction _ _ _ _ _ (c .before .before .before .if1 .left) _ _ _ _ _ (c .before .before .before .before .before .set-bit .ensures)
-    (c .before .before .before .before .set-bit2 .ensures) (c .before .before .bit-count .ensures) (c .before .power .ensures) (c .from-fields2 .ensures)
+    pair-fraction _ _ _ _ _ (c .before .before .before .if1 .left) _ _ _ _ _ (c .before .before .before .before .before .bit-of .ensures)
+    (c .before .before .before .before .bit-of2 .ensures) (c .before .before .bit-count .ensures) (c .before .power .ensures) (c .from-fields2 .ensures)
 
 pub word-spec : {M : Type 1} → statement M
 word-spec =
     tie.close
     (tie.spec
-    set-bit-requires
-    set-bit-requires-2
+    bit-of-requires
+    bit-of-requires-2
     special-position-requires
     from-fields-requires
     returns

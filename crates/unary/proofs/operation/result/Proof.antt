@@ -1,44 +1,48 @@
 -- `unary::operation::result` meets its contract. Assumes nothing.
-use Rattle.unary.proofs.UnaryLaws.{held-small, result-touched, result-written}
-use mathlib.Core.Path.{sym, ap, _∙_}
+use Rattle.unary.proofs.UnaryLaws.{good-small, good-touched, good-written}
+use Rattle.slash.proofs.WordLaws.{checked-known}
+use mathlib.Core.Path.{refl, ap}
 use mathlib.Core.Bool.{Bool, not, _&&_}
 use lib.Dec.{leb}
 use borrow.Author.Needs.{needs}
 use Rattle.unary.proofs.operation.result.Statement.{statement}
 use Rattle.unary.proofs.operation.result.Tie as tie
 
+value-requires : tie.Need-value-requires
+value-requires c κs = search needs
+
 is-nan-requires : tie.Need-is-nan-requires
 is-nan-requires c κs = search needs
 
 touch-sign-requires : tie.Need-touch-sign-requires
-touch-sign-requires c κs = search needs
+touch-sign-requires c κs = checked-known _ _ (c .before .before .before .pre)
 
 returns : tie.Need-returns
-returns c =
-    let start = c .before .before .before in
-    let nan : Bool → Bool = λ b. leb (start .args .code) 2 && not b in
-    result-touched _ (start .pre .0) _ _ _ _ (ap nan (sym (c .before .before .is-nan .ensures)) ∙ c .before .if1 .taken) (c .touch-sign .ensures)
+returns c = let marked : Bool → Bool = λ b. leb (c .before .before .before .before .args .code) 2 && not b in
+    good-touched _ _ _ (c .before .before .before .before .pre) _ (c .before .before .before .value .ensures) _ (ap marked (c .before .before .is-nan .ensures)) _ (c .before .if1 .taken) (c .touch-sign .ensures)
 
 exact-value-requires : tie.Need-exact-value-requires
-exact-value-requires c κs = let start = c .before .before in held-small _ (start .pre .0) _ (start .pre .1)
+exact-value-requires c κs = good-small _ (c .before .before .before .args .code) _ (c .before .before .before .pre) _ (c .before .before .value .ensures) _ refl
+
+is-approximate-requires : tie.Need-is-approximate-requires
+is-approximate-requires c κs = search needs
 
 write-requires : tie.Need-write-requires
 write-requires c κs = search needs
 
 returns-2 : tie.Need-returns-2
-returns-2 c =
-    let start = c .before .before .before .before in
-    let nan : Bool → Bool = λ b. leb (start .args .code) 2 && not b in
-    result-written _ (start .pre .0) _ _ _ (start .pre .1) _ _ (ap nan (sym (c .before .before .before .is-nan .ensures)) ∙ c .before .before .if1 .left)
-    (c .before .exact-value .ensures) (c .write .ensures)
+returns-2 c = let marked : Bool → Bool = λ b. leb (c .before .before .before .before .before .before .args .code) 2 && not b in
+    good-written _ _ _ (c .before .before .before .before .before .before .pre) _ (c .before .before .before .before .before .value .ensures) _ (ap marked (c .before .before .before .before .is-nan .ensures)) _ _ _ (c .before .before .before .if1 .left) (c .before .before .exact-value .ensures) (c .before .is-approximate .ensures) (c .write .ensures)
 
 pub result-spec : {M : Type 1} → statement M
 result-spec =
     tie.close
     (tie.spec
+    value-requires
     is-nan-requires
     touch-sign-requires
     returns
     exact-value-requires
+    is-approximate-requires
     write-requires
     returns-2)

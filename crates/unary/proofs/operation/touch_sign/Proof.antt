@@ -1,6 +1,8 @@
 -- `unary::operation::touch_sign` meets its contract. Assumes nothing.
-use Rattle.unary.proofs.UnaryLaws.{width-never-stops, sign-place, sign-touched}
-use mathlib.Core.Bool.{not}
+use Rattle.unary.proofs.UnaryLaws.{width-never-stops, width-told, width-some, touch-done}
+use Rattle.unary.specs.Unary.{signBit}
+use mathlib.Core.Path.{refl}
+use native.Mathlib.Omega.{arith}
 use borrow.Author.Needs.{needs}
 use Rattle.unary.proofs.operation.touch_sign.Statement.{statement}
 use Rattle.unary.proofs.operation.touch_sign.Tie as tie
@@ -15,17 +17,19 @@ enum-known-width : tie.Need-enum-known-width
 enum-known-width c = search needs
 
 sub-touch-highest : tie.Need-sub-touch-highest
-sub-touch-highest c = sign-place _ (c .before .before .before .before .pre) _ (c .before .before .before .width .ensures) _ (c .before .width2 .given .1) .0
+sub-touch-highest c = omega (arith, width-some _ (c .before .before .before .before .pre) _ (c .before .before .before .width .ensures) _ (c .before .width2 .given .1))
 
 touch-highest-requires : tie.Need-touch-highest-requires
-touch-highest-requires c κs = sign-place _ (c .before .before .before .before .pre) _ (c .before .before .before .width .ensures) _ (c .before .width2 .given .1) .1
+touch-highest-requires c κs = omega (arith, width-some _ (c .before .before .before .before .pre) _ (c .before .before .before .width .ensures) _ (c .before .width2 .given .1))
 
 returns : tie.Need-returns
 returns c = width-never-stops _ (c .before .before .before .before .pre) _ (c .before .before .before .width .ensures) _ (c .before .s .given .1)
 
 returns-2 : tie.Need-returns-2
+unfolding signBit
 returns-2 c =
-    sign-touched _ (c .before .before .before .before .before .pre) _ (c .before .before .before .before .width .ensures) _ _ _ _ (c .before .before .width2 .given .1) (c .touch-highest .ensures)
+    let told = width-told _ (c .before .before .before .before .before .pre) _ (c .before .before .before .before .width .ensures) _ (c .before .before .width2 .given .1) in
+    touch-done _ _ _ _ _ (c .touch-highest .ensures) (rw told refl)
 
 pub touch-sign-spec : {M : Type 1} → statement M
 touch-sign-spec =

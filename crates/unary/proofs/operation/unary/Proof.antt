@@ -1,10 +1,9 @@
 -- `unary::operation::unary` meets its contract. Assumes nothing.
 use Rattle.unary.proofs.UnaryLaws.{unary-format, unary-code, unary-stop, unary-done}
-use Rattle.slash.proofs.AnswerLaws.{plain-stop, reading-stop, reading-done}
-use Rattle.slash.proofs.Canonical.{read-held}
+use Rattle.slash.proofs.AnswerLaws.{plain-stop}
+use Rattle.slash.proofs.WordLaws.{check-stopped, check-good, check-read}
 use borrow.Author.Tests.{not-true, not-false}
 use mathlib.Core.Path.{sym, _∙_}
-use mathlib.Core.Bool.{not}
 use borrow.Author.Needs.{needs}
 use Rattle.unary.proofs.operation.unary.Statement.{statement}
 use Rattle.unary.proofs.operation.unary.Tie as tie
@@ -16,8 +15,7 @@ plain-requires : tie.Need-plain-requires
 plain-requires c κs = search needs
 
 returns : tie.Need-returns
-returns c =
-    let e = plain-stop _ 1 (c .plain .ensures) (unary-format _ _ _ (sym (c .before .before .is-known .ensures) ∙ not-true _ (c .before .if1 .taken))) in (e, λ l. tt)
+returns c = let e = plain-stop _ 1 (c .plain .ensures) (unary-format _ _ _ (sym (c .before .before .is-known .ensures) ∙ not-true _ (c .before .if1 .taken))) in (e, λ l. tt)
 
 is-unary-requires : tie.Need-is-unary-requires
 is-unary-requires c κs = search needs
@@ -27,39 +25,31 @@ plain-requires-2 c κs = search needs
 
 returns-2 : tie.Need-returns-2
 returns-2 c = (
-  plain-stop _ 2 (c .plain2 .ensures)
-      (unary-code _ _ _ (sym (c .before .before .before .before .is-known .ensures) ∙ not-false _ (c .before .before .before .if1 .left))
-      (sym (c .before .before .is-unary .ensures) ∙ not-true _ (c .before .if2 .taken))),
+  plain-stop _ 2 (c .plain2 .ensures) (unary-code _ _ _ (sym (c .before .before .before .before .is-known .ensures) ∙ not-false _ (c .before .before .before .if1 .left)) (sym (c .before .before .is-unary .ensures) ∙ not-true _ (c .before .if2 .taken))),
   λ l. tt,
 )
 
-read-requires : tie.Need-read-requires
-read-requires c κs = search needs
+check-requires : tie.Need-check-requires
+check-requires c κs = search needs
 
 enum-known-s : tie.Need-enum-known-s
 enum-known-s c = search needs
 
-enum-known-x : tie.Need-enum-known-x
-enum-known-x c = search needs
+enum-told : tie.Need-enum-told
+enum-told c = search needs
 
 result-requires : tie.Need-result-requires
-result-requires c κs =
-    let h = sym (c .before .before .before .before .before .before .before .is-known .ensures) ∙ not-false _ (c .before .before .before .before .before .before .if1 .left) in
-    (h, read-held _ h _ _ (sym (reading-done (c .before .before .before .read .ensures) (c .before .x .given .1))))
+result-requires c κs = check-good _ _ (c .before .before .check .ensures) (c .enum-told .given .1)
 
 returns-3 : tie.Need-returns-3
 returns-3 c = (
-  unary-stop _ _ _ (sym (c .before .before .before .before .before .before .before .is-known .ensures) ∙ not-false _ (c .before .before .before .before .before .before .if1 .left))
-      (sym (c .before .before .before .before .before .is-unary .ensures) ∙ not-false _ (c .before .before .before .before .if2 .left))
-      (reading-stop (c .before .before .before .read .ensures) (c .before .s .given .1)),
+  unary-stop _ _ _ (sym (c .before .before .before .before .before .before .before .is-known .ensures) ∙ not-false _ (c .before .before .before .before .before .before .if1 .left)) (sym (c .before .before .before .before .before .is-unary .ensures) ∙ not-false _ (c .before .before .before .before .if2 .left)) (check-stopped _ _ (c .before .before .before .check .ensures) (c .before .s .given .1)),
   λ l. tt,
 )
 
 returns-4 : tie.Need-returns-4
-returns-4 c =
-    unary-done _ _ _ (sym (c .before .before .before .before .before .before .before .before .is-known .ensures) ∙ not-false _ (c .before .before .before .before .before .before .before .if1 .left))
-    (sym (c .before .before .before .before .before .before .is-unary .ensures) ∙ not-false _ (c .before .before .before .before .before .if2 .left)) _
-    (reading-done (c .before .before .before .before .read .ensures) (c .before .before .x .given .1)) _ (c .result .ensures)
+returns-4 c = unary-done _ _ _ (sym (c .before .before .before .before .before .before .before .is-known .ensures) ∙ not-false _ (c .before .before .before .before .before .before .if1 .left)) (sym (c .before .before .before .before .before .is-unary .ensures) ∙ not-false _ (c .before .before .before .before .if2 .left)) _
+    (check-read _ _ (c .before .before .before .check .ensures) (c .before .enum-told .given .1)) _ (c .result .ensures)
 
 pub unary-spec : {M : Type 1} → statement M
 unary-spec =
@@ -71,9 +61,9 @@ unary-spec =
     is-unary-requires
     plain-requires-2
     returns-2
-    read-requires
+    check-requires
     enum-known-s
-    enum-known-x
+    enum-told
     result-requires
     returns-3
     returns-4)

@@ -1,54 +1,36 @@
 -- `unary::signed::above_floor` meets its contract. Assumes nothing.
-use Rattle.unary.proofs.SignedLaws.{test-below, test-above, above-above, above-small, above-below}
-use native.Mathlib.Nat.{mod-lt}
-use native.Mathlib.Omega.{arith}
+use Rattle.unary.proofs.SignedLaws.{above-product, above-difference, above-size, above-returns}
 use borrow.Author.Needs.{needs}
 use Rattle.unary.proofs.signed.above_floor.Statement.{statement}
 use Rattle.unary.proofs.signed.above_floor.Tie as tie
 
-sub-result : tie.Need-sub-result
-sub-result c = search needs
+floor-requires : tie.Need-floor-requires
+floor-requires c κs = search needs
 
-flip-requires : tie.Need-flip-requires
-flip-requires c κs = search needs
+product-requires : tie.Need-product-requires
+product-requires c κs =
+    let start = c .before in
+    (start .pre .2, above-product (start .args .n) _ (start .pre .0) (start .pre .1) (start .pre .2) _ (record { sfits = c .floor .ok }) (c .floor .ensures))
+
+difference-requires : tie.Need-difference-requires
+difference-requires c κs =
+    let start = c .before .before in
+    above-difference (start .args .n) _ (start .pre .0) (start .pre .1) (start .pre .2) _ (record { sfits = c .before .floor .ok }) (c .before .floor .ensures)
+    _ (record { sfits = c .product .ok }) (c .product .ensures)
 
 size-requires : tie.Need-size-requires
 size-requires c κs =
-    let start = c .before .before in
-    above-small _ _ (start .pre .0) (start .pre .1) _ (record { sfits = c .flip .ok }) (c .flip .ensures) (test-below _ (start .fits .n) (c .before .if1 .taken))
-
-rem-result : tie.Need-rem-result
-rem-result c = search needs
-
-sub-result-2 : tie.Need-sub-result-2
-sub-result-2 c = let start = c .before .before .before in omega (arith, mod-lt (c .size .result) (start .pre .1))
-
-size-requires-2 : tie.Need-size-requires-2
-size-requires-2 c κs = search needs
-
-rem-result-2 : tie.Need-rem-result-2
-rem-result-2 c = search needs
+    let start = c .before .before .before in
+    above-size (start .args .n) _ (start .pre .0) (start .pre .1) (start .pre .2) _ (record { sfits = c .before .before .floor .ok }) (c .before .before .floor .ensures)
+    _ (record { sfits = c .before .product .ok }) (c .before .product .ensures) _ (record { sfits = c .difference .ok }) (c .difference .ensures)
 
 returns : tie.Need-returns
 returns c =
-    let start = c .before .before .before in
-    above-below _ _ (start .pre .0) (start .pre .1) _ (record { sfits = c .before .flip .ok }) (c .before .flip .ensures) (test-below _ (start .fits .n) (c .before .before .if1 .taken)) _ (c .size .ensures)
-
-returns-2 : tie.Need-returns-2
-returns-2 c =
-    let start = c .before .before in
-    above-above _ _ (start .pre .0) _ (c .size2 .ensures) (test-above _ (start .fits .n) (c .before .if1 .left))
+    let start = c .before .before .before .before in
+    above-returns (start .args .n) _ (start .pre .0) (start .pre .1) (start .pre .2) _ (record { sfits = c .before .before .before .floor .ok }) (c .before .before .before .floor .ensures)
+    _ (record { sfits = c .before .before .product .ok }) (c .before .before .product .ensures) _ (record { sfits = c .before .difference .ok }) (c .before .difference .ensures)
+    _ (c .size .ensures)
 
 pub above-floor-spec : {M : Type 1} → statement M
 above-floor-spec =
-    tie.close
-    (tie.spec
-    sub-result
-    flip-requires
-    size-requires
-    rem-result
-    sub-result-2
-    size-requires-2
-    rem-result-2
-    returns
-    returns-2)
+    tie.close (tie.spec floor-requires product-requires difference-requires size-requires returns)

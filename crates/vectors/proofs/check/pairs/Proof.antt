@@ -1,6 +1,5 @@
 -- `vectors::check::pairs` meets its contract. Assumes nothing.
-use Rattle.vectors.proofs.EachLaws.{operands-at, length-places, check-next, check-stop, check-end, stored-stop, stored-done}
-use Rattle.slash.specs.Answers.{Outcome}
+use Rattle.vectors.proofs.EachLaws.{operands-at, length-places, check-next, check-stop, check-end, told-stop, told-good}
 use Rattle.vectors.specs.Each.{storedOutcome}
 use Rattle.vectors.specs.Vectors.{places}
 use Rattle.vectors.specs.Steps.{checks, checkOperands}
@@ -8,7 +7,7 @@ use borrow.Author.Needs.{needs}
 use native.Mathlib.Omega.{arith}
 use mathlib.Core.Path.{_≡_, refl, ap, _∙_}
 use Prim.Native.Nat.{_≤_, _-_}
-use lib.ListN.{length, take, drop}
+use lib.ListN.{length, drop}
 use Rattle.vectors.proofs.check.pairs.Statement.{statement}
 use Rattle.vectors.proofs.check.pairs.Tie as tie
 
@@ -47,7 +46,7 @@ returns c =
     let at = c .before .before .before .before .before .before .before .before .loop in
     let same = c .before .before .before .before .before .before .before .before .before .before .before .pre in
     ap storedOutcome (c .at-place .ensures)
-    ∙ check-stop (checkOperands _) _ _ _ (operands-at _ _ _ same (c .before .before .before .before .before .before .before .loop-test .taken)) (stored-stop (c .before .before .before .before .pair .ensures) (c .before .before .s .given .1))
+    ∙ check-stop (checkOperands _) _ _ _ (operands-at _ _ _ same (c .before .before .before .before .before .before .before .loop-test .taken)) (told-stop (c .before .before .before .before .pair .ensures) (c .before .before .s .given .1))
     ∙ at .inv .1
 
 enum-told : tie.Need-enum-told Inv-loop μ-loop
@@ -64,7 +63,7 @@ loop-again c =
     let at = c .before .before .before .before .before .before .loop in
     let same = c .before .before .before .before .before .before .before .before .before .pre in (
       omega arith,
-      check-next (checkOperands _) _ _ _ (operands-at _ _ _ same (c .before .before .before .before .before .loop-test .taken)) (stored-done (c .before .before .pair .ensures) (c .enum-told .given .1)) ∙ at .inv .1,
+      check-next (checkOperands _) _ _ _ (operands-at _ _ _ same (c .before .before .before .before .before .loop-test .taken)) (told-good (c .before .before .pair .ensures) (c .enum-told .given .1)) ∙ at .inv .1,
     )
 
 returns-2 : tie.Need-returns-2 Inv-loop μ-loop

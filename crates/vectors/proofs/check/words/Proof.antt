@@ -1,12 +1,13 @@
 -- `vectors::check::words` meets its contract. Assumes nothing.
-use Rattle.vectors.proofs.EachLaws.{word-at, check-next, check-stop, check-end, stored-stop, stored-done}
+use Rattle.vectors.proofs.EachLaws.{word-at, check-next, check-stop, check-end, told-stop, told-good}
+use Rattle.slash.specs.Words.{checkWord}
 use Rattle.vectors.specs.Each.{storedOutcome}
-use Rattle.vectors.specs.Steps.{checks, checkWord}
+use Rattle.vectors.specs.Steps.{checks}
 use borrow.Author.Needs.{needs}
 use native.Mathlib.Omega.{arith}
 use mathlib.Core.Path.{_≡_, refl, ap, _∙_}
 use Prim.Native.Nat.{_≤_, _-_}
-use lib.ListN.{length, take, drop}
+use lib.ListN.{length, drop}
 use Rattle.vectors.proofs.check.words.Statement.{statement}
 use Rattle.vectors.proofs.check.words.Tie as tie
 
@@ -19,14 +20,14 @@ abbrev μ-loop : tie.MeasureT-loop
 loop-holds : tie.Need-loop-holds Inv-loop μ-loop
 loop-holds c = (omega arith, refl)
 
-mul-word : tie.Need-mul-word Inv-loop μ-loop
-mul-word c = search needs
+mul-check : tie.Need-mul-check Inv-loop μ-loop
+mul-check c = search needs
 
-shared-slice-read-word : tie.Need-shared-slice-read-word Inv-loop μ-loop
-shared-slice-read-word c = search needs
+shared-slice-read-check : tie.Need-shared-slice-read-check Inv-loop μ-loop
+shared-slice-read-check c = search needs
 
-word-requires : tie.Need-word-requires Inv-loop μ-loop
-word-requires c κs = search needs
+check-requires : tie.Need-check-requires Inv-loop μ-loop
+check-requires c κs = search needs
 
 enum-known-s : tie.Need-enum-known-s Inv-loop μ-loop
 enum-known-s c = search needs
@@ -38,7 +39,7 @@ returns : tie.Need-returns Inv-loop μ-loop
 returns c =
     let at = c .before .before .before .before .before .before .before .loop in
     ap storedOutcome (c .at-place .ensures)
-    ∙ check-stop (checkWord _) _ _ _ (word-at _ _ (c .before .before .before .before .before .before .loop-test .taken)) (stored-stop (c .before .before .before .before .word .ensures) (c .before .before .s .given .1))
+    ∙ check-stop (checkWord _) _ _ _ (word-at _ _ (c .before .before .before .before .before .before .loop-test .taken)) (told-stop (c .before .before .before .before .check .ensures) (c .before .before .s .given .1))
     ∙ at .inv .1
 
 enum-told : tie.Need-enum-told Inv-loop μ-loop
@@ -53,7 +54,7 @@ loop-less c = search needs
 loop-again : tie.Need-loop-again Inv-loop μ-loop
 loop-again c =
     let at = c .before .before .before .before .before .loop in
-    (omega arith, check-next (checkWord _) _ _ _ (word-at _ _ (c .before .before .before .before .loop-test .taken)) (stored-done (c .before .before .word .ensures) (c .enum-told .given .1)) ∙ at .inv .1)
+    (omega arith, check-next (checkWord _) _ _ _ (word-at _ _ (c .before .before .before .before .loop-test .taken)) (told-good (c .before .before .check .ensures) (c .enum-told .given .1)) ∙ at .inv .1)
 
 returns-2 : tie.Need-returns-2 Inv-loop μ-loop
 returns-2 c = check-end (checkWord _) _ _ (c .loop-test .left) ∙ c .before .loop .inv .1
@@ -65,9 +66,9 @@ words-spec =
     Inv-loop
     μ-loop
     loop-holds
-    mul-word
-    shared-slice-read-word
-    word-requires
+    mul-check
+    shared-slice-read-check
+    check-requires
     enum-known-s
     at-place-requires
     returns

@@ -1,6 +1,6 @@
 -- `vectors::each::store_binary` meets its contract. Assumes nothing.
 use Rattle.vectors.proofs.EachLaws.{operands-at, length-places, store-next, store-end}
-use Rattle.vectors.specs.Vectors.{operands, places}
+use Rattle.vectors.specs.Vectors.{places}
 use Rattle.vectors.specs.Steps.{wordIn, binaryIn}
 use borrow.Author.Needs.{needs}
 use native.Mathlib.Omega.{arith}

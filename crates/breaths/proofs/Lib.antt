@@ -1,0 +1,2 @@
+-- The laws that the functions' proofs cite, and what follows from the definitions.
+pub mod RatioLaws

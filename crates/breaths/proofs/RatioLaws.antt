@@ -1,0 +1,263 @@
+-- Ratios: durations, what is void, and that the word of a ratio from 0 to 1 is a fraction from 0 to 1. Assumes nothing.
+use mathlib.Core.Path.{_≡_, refl, sym, ap, _∙_, subst}
+use mathlib.Core.Bool.{Bool, true, false, _&&_, _||_, and-true, and-false}
+use mathlib.Core.Logic.{⊎-elim}
+use Prim.Native.Nat.{ℕ, zero, suc, _+_, _*_, _%_, _^_, _≤_, _<_}
+use native.Mathlib.Omega.{arith}
+use native.Mathlib.Nat.{mul-le-mul-left, mul-le-mul-right}
+use native.Mathlib.Decide.{decLe, ℕ-discrete}
+use lib.Dec.{eqb, ltb}
+use borrow.Author.Tests.{eqb-true, eqb-false, leb-false, ltb-false, eq-eqb, ne-eqb}
+use Rattle.convergents.specs.Pairs.{Pair, pair}
+use Rattle.convergents.specs.Rounding.{Limit, held}
+use Rattle.convergents.specs.Best.{Best}
+use Rattle.convergents.proofs.Optimal.{held-is}
+use Rattle.slash.specs.Answers.{Outcome, done, outcome, WhenDone}
+use Rattle.slash.specs.Formats.{kFits, known, widthOf, holds}
+use Rattle.slash.specs.Words.{checkWord, isOverZero, isAbove, writeNumber, exactRatio, BestFor, BestWord}
+use Rattle.slash.specs.Canonical.{CanonicalWord}
+use Rattle.slash.specs.declared.answer.Answer.{Answer}
+use Rattle.slash.specs.declared.answer.Answer.the-variants as Answer
+use Rattle.slash.specs.declared.answer.Stop.{Stop}
+use Rattle.slash.specs.declared.format.Format.{Format}
+use Rattle.slash.proofs.AnswerLaws.{done-inj, no-stop}
+use Rattle.slash.proofs.WordLaws.{read-checked, checked-below}
+use Rattle.slash.proofs.FormatLaws.{format-limit, fixed-holds}
+use Rattle.slash.proofs.WriteLaws.{write-done, word-best}
+use Rattle.slash.proofs.Canonical.{written-canonical}
+use Rattle.breaths.specs.Breaths.{span, breathOf, isVoid, format, ratioWord, breathRatio, withBreath, noneLeft, nightRatio, fractionOf, wordOf, BestRatio}
+use Rattle.breaths.specs.Shown.{Shown, ShownRatio, Proper}
+use Rattle.breaths.specs.declared.breath.Breath.{Breath}
+use Rattle.breaths.specs.declared.breath.Sums.{Sums}
+use Rattle.breaths.specs.declared.ratio.Ratio.{Ratio}
+use Rattle.breaths.specs.declared.ratio.Ratio.the-variants.{Void, Word}
+
+-- a difference modulo 2^32 is the one number that leads from the first mark to the second
+pub span-is : (from to r : ℕ) → from < 2 ^ 32 → r < 2 ^ 32 → (r + from) % 2 ^ 32 ≡ to → r ≡ span from to
+unfolding span
+span-is from to r f h e = omega arith
+
+pub between-is : (onset peak next i w : ℕ) → onset < 2 ^ 32 → i < 2 ^ 32 → w < 2 ^ 32
+    → (i + onset) % 2 ^ 32 ≡ peak → (w + onset) % 2 ^ 32 ≡ next → record { inspiration = i; whole = w } ≡ breathOf onset peak next
+unfolding breathOf
+between-is onset peak next i w o h l e f = rw (span-is onset peak i o h e, span-is onset next w o l f) refl
+
+-- ---- the best pair for a ratio from 0 to 1 is one too
+
+module _ (limit : ℕ → ℕ → Bool) (lim : Limit limit) (N D : ℕ) (pos : 1 ≤ D) (l : N ≤ D) where
+  -- 0/1 does better than 1/0
+  finite : (r : ℕ) → Best limit N D (pair r 0) → ⊥
+  unfolding held
+  finite r b =
+      let one : r ≡ 1 = eqb-true r 1 (b .isHeld) in
+      let zero-held : held limit (pair 0 1) ≡ true = lim .downward 1 1 0 1 (lim .one) (omega arith) (omega arith) (omega arith) in
+      let differ : pair 0 1 ≡ pair r 0 → ⊥ = λ e. let z : _≡_ {A = ℕ} 1 0 = ap (λ (x : Pair). x .denominator) e in omega arith in
+      ⊎-elim (λ h. omega (arith, ap (λ (x : ℕ). x * D) one)) (λ h. omega (arith, ap (λ (x : ℕ). x * D) one, h .0)) (b .better (pair 0 1) zero-held differ)
+
+  -- 1/1 does better than what is above 1
+  below-one : (r s : ℕ) → 1 ≤ s → Best limit N D (pair r s) → r ≤ s
+  below-one r s p b = go (decLe r s)
+    where
+      go : Dec (r ≤ s) → r ≤ s
+      go (yes h) = h
+      go (no n) =
+          let above : s + 1 ≤ r = omega arith in
+          let one-held : held limit (pair 1 1) ≡ true = held-is limit 1 1 (omega arith) ∙ lim .one in
+          let differ : pair 1 1 ≡ pair r s → ⊥ =
+          λ e. let i : 1 ≡ r = ap (λ (x : Pair). x .numerator) e in let j : 1 ≡ s = ap (λ (x : Pair). x .denominator) e in omega arith
+          in
+          let i : (s + 1) * D ≤ r * D = mul-le-mul-right D above in
+          let j : s * N ≤ s * D = mul-le-mul-left s l in
+          absurd (⊎-elim (λ h. omega (arith, i, j)) (λ h. omega (arith, i, j, h .0, h .1)) (b .better (pair 1 1) one-held differ))
+
+  from-zero-to-one : (x : Pair) → Best limit N D x → (1 ≤ x .denominator) × (x .numerator ≤ x .denominator)
+  from-zero-to-one x b = go (x .numerator) (x .denominator) b
+    where
+      go : (r s : ℕ) → Best limit N D (pair r s) → (1 ≤ s) × (r ≤ s)
+      go r zero c = absurd (finite r c)
+      go r (suc s) c = let p : 1 ≤ suc s = omega arith in (p, below-one r (suc s) p c)
+
+-- ---- the word of a ratio
+
+known-format : known format ≡ true
+unfolding known kFits
+known-format = refl
+
+module _ (N D : ℕ) (pos : 1 ≤ D) where
+  not-over : isOverZero (exactRatio N D .value) ≡ false
+  unfolding isOverZero
+  not-over = ne-eqb D 0 (λ e. omega arith)
+
+  ratio-written : done (ratioWord N D) ≡ writeNumber format (exactRatio N D)
+  unfolding ratioWord
+  ratio-written = write-done format _ known-format not-over
+
+  -- demand 3
+  pub ratio-best : BestFor format N D (ratioWord N D)
+  unfolding ratioWord BestWord
+  ratio-best = word-best format known-format false (exactRatio N D .value) not-over
+
+  best-word : BestRatio N D (Word (ratioWord N D))
+  unfolding BestRatio
+  best-word = ratio-best
+
+  -- what `slash::round_word` answers
+  module _ (f : Format) (fe : f ≡ format) (a : Answer)
+      (w : (outcome a ≡ writeNumber f (exactRatio N D)) × WhenDone (outcome a) (λ v. BestFor f N D v)) where
+    answer : outcome a ≡ done (ratioWord N D)
+    answer = w .0 ∙ ap (λ (g : Format). writeNumber g (exactRatio N D)) fe ∙ sym ratio-written
+
+    pub rounded-done : (v : ℕ) → a ≡ Answer.Done v → (Word v ≡ Word (ratioWord N D)) × BestRatio N D (Word v)
+    unfolding BestRatio
+    rounded-done v e =
+        let best : BestFor f N D v = subst (λ (o : Outcome ℕ). WhenDone o (λ u. BestFor f N D u)) (ap outcome e) (w .1) in
+        (ap Word (done-inj (sym (ap outcome e) ∙ answer)), subst (λ (g : Format). BestFor g N D v) fe best)
+
+    pub rounded-stop : (s : Stop) → a ≡ Answer.Stopped s → ⊥
+    rounded-stop s e = no-stop (sym (ap outcome e) ∙ answer)
+
+  -- its 8 hexadecimal digits are all of it
+  pub ratio-word-width : ratioWord N D < 2 ^ 32
+  unfolding isAbove widthOf
+  ratio-word-width =
+      let w : CanonicalWord format (ratioWord N D) = written-canonical format _ (ratioWord N D) (sym ratio-written) in
+      let c : checkWord format (ratioWord N D) ≡ done tt = read-checked format (ratioWord N D) (w .read) in
+      leb-false _ _ (checked-below format (ratioWord N D) c)
+
+  pub ratio-shown : N ≤ D → Shown (ratioWord N D)
+  unfolding fractionOf BestFor
+  ratio-shown l =
+      let x : Pair = fractionOf (ratioWord N D) in
+      let b : Best (holds format) N D x = ratio-best in
+      let p = from-zero-to-one (holds format) (format-limit format known-format) N D pos l x b in
+      let h : holds format (x .numerator) (x .denominator) ≡ true = sym (held-is (holds format) (x .numerator) (x .denominator) (p .0)) ∙ b .isHeld in
+      let s = fixed-holds format (x .numerator) (x .denominator) refl h .1 in
+      record { some = p .0; proper = p .1; small = omega arith }
+
+-- the answers of `Ratio::word`
+module _ (r : Ratio) where
+  pub word-void : r ≡ Void → 0 ≡ wordOf r
+  unfolding wordOf
+  word-void e = rw e refl
+
+  pub word-word : (w : ℕ) → r ≡ Word w → w ≡ wordOf r
+  unfolding wordOf
+  word-word w e = rw e refl
+
+-- ---- a breath
+
+or-false : (s t : Bool) → (s || t) ≡ false → (s ≡ false) × (t ≡ false)
+or-false true t e = let z : _≡_ {A = ℕ} 0 1 = cc in absurd (omega arith)
+or-false false t e = (refl, e)
+
+module _ (b : Breath) where
+  pub void-is : (eqb (b .whole) 0 || ltb (b .whole) (b .inspiration)) ≡ isVoid b
+  unfolding isVoid
+  void-is = refl
+
+  -- a breath that isn't void
+  pub good-breath : isVoid b ≡ false → (1 ≤ b .whole) × (b .inspiration ≤ b .whole)
+  good-breath h =
+      let w = or-false (eqb (b .whole) 0) (ltb (b .whole) (b .inspiration)) (void-is ∙ h) in
+      let n : b .whole ≡ 0 → ⊥ = eqb-false _ _ (w .0) in
+      (omega arith, ltb-false _ _ (w .1))
+
+  pub breath-void : isVoid b ≡ true → (Void ≡ breathRatio b) × BestRatio (b .inspiration) (b .whole) Void
+  unfolding breathRatio BestRatio
+  breath-void h = (rw h refl, tt)
+
+  pub breath-word : isVoid b ≡ false → (r : Ratio)
+      → (r ≡ Word (ratioWord (b .inspiration) (b .whole))) × BestRatio (b .inspiration) (b .whole) r
+      → (r ≡ breathRatio b) × BestRatio (b .inspiration) (b .whole) r
+  unfolding breathRatio
+  breath-word h r w = (w .0 ∙ rw h refl, w .1)
+
+  -- Demand 3, of every breath.
+  pub breath-best : BestRatio (b .inspiration) (b .whole) (breathRatio b)
+  breath-best = go (isVoid b) refl
+    where
+      go : (t : Bool) → isVoid b ≡ t → BestRatio (b .inspiration) (b .whole) (breathRatio b)
+      go true h = let w = breath-void h in subst (BestRatio (b .inspiration) (b .whole)) (w .0) (w .1)
+      go false h =
+          let best = best-word (b .inspiration) (b .whole) (good-breath h .0) in
+          subst (BestRatio (b .inspiration) (b .whole)) (breath-word h _ (refl, best) .0) best
+
+  pub breath-shown : ShownRatio (breathRatio b)
+  breath-shown = go (isVoid b) refl
+    where
+      go : (t : Bool) → isVoid b ≡ t → ShownRatio (breathRatio b)
+      go true h = subst ShownRatio (breath-void h .0) tt
+      go false h =
+          let g = good-breath h in
+          subst ShownRatio (breath-word h _ (refl, best-word _ _ (g .0)) .0) (ratio-shown (b .inspiration) (b .whole) (g .0) (g .1))
+
+-- ---- a night
+
+module _ (s : Sums) where
+  pub night-void : s .whole ≡ 0 → (Void ≡ nightRatio s) × BestRatio (s .inspiration) (s .whole) Void
+  unfolding nightRatio noneLeft BestRatio
+  night-void h = (rw (eq-eqb _ _ h) refl, tt)
+
+  pub night-word : (s .whole ≡ 0 → ⊥) → (r : Ratio)
+      → (r ≡ Word (ratioWord (s .inspiration) (s .whole))) × BestRatio (s .inspiration) (s .whole) r
+      → (r ≡ nightRatio s) × BestRatio (s .inspiration) (s .whole) r
+  unfolding nightRatio noneLeft
+  night-word h r w = (w .0 ∙ rw (ne-eqb _ _ h) refl, w .1)
+
+  -- Demand 3, of every night.
+  pub night-best : BestRatio (s .inspiration) (s .whole) (nightRatio s)
+  night-best = go (ℕ-discrete (s .whole) 0)
+    where
+      go : Dec (s .whole ≡ 0) → BestRatio (s .inspiration) (s .whole) (nightRatio s)
+      go (yes h) = let w = night-void h in subst (BestRatio (s .inspiration) (s .whole)) (w .0) (w .1)
+      go (no h) =
+          let best = best-word (s .inspiration) (s .whole) (omega arith) in
+          subst (BestRatio (s .inspiration) (s .whole)) (night-word h _ (refl, best) .0) best
+
+  pub night-shown : Proper s → ShownRatio (nightRatio s)
+  night-shown p = go (ℕ-discrete (s .whole) 0)
+    where
+      go : Dec (s .whole ≡ 0) → ShownRatio (nightRatio s)
+      go (yes h) = subst ShownRatio (night-void h .0) tt
+      go (no h) =
+          let pos : 1 ≤ s .whole = omega arith in
+          subst ShownRatio (night-word h _ (refl, best-word _ _ pos) .0) (ratio-shown (s .inspiration) (s .whole) pos p)
+
+  pub sum-void : (b : Breath) → isVoid b ≡ true → s ≡ withBreath s b
+  unfolding withBreath
+  sum-void b h = rw h refl
+
+  pub sum-good : (b : Breath) → isVoid b ≡ false
+      → record { inspiration = s .inspiration + b .inspiration; whole = s .whole + b .whole } ≡ withBreath s b
+  unfolding withBreath
+  sum-good b h = rw h refl
+
+-- the sums with a breath more
+module _ (s : Sums) (b : Breath) where
+  pub sum-bounds : withBreath s b .whole ≤ s .whole + b .whole
+  sum-bounds = go (isVoid b) refl
+    where
+      go : (t : Bool) → isVoid b ≡ t → withBreath s b .whole ≤ s .whole + b .whole
+      go true h = omega (arith, ap (λ (x : Sums). x .whole) (sum-void s b h))
+      go false h = omega (arith, ap (λ (x : Sums). x .whole) (sum-good s b h))
+
+  pub sum-proper : Proper s → Proper (withBreath s b)
+  sum-proper p = go (isVoid b) refl
+    where
+      go : (t : Bool) → isVoid b ≡ t → withBreath s b .inspiration ≤ withBreath s b .whole
+      go true h = subst Proper (sum-void s b h) p
+      go false h =
+          let g = good-breath b h in
+          omega (arith, p, g .1, ap (λ (x : Sums). x .whole) (sum-good s b h), ap (λ (x : Sums). x .inspiration) (sum-good s b h))
+
+  -- none is left just where none was left before and this breath is void
+  pub none-left : noneLeft (withBreath s b) ≡ (noneLeft s && isVoid b)
+  unfolding noneLeft
+  none-left = go (isVoid b) refl
+    where
+      go : (t : Bool) → isVoid b ≡ t → eqb (withBreath s b .whole) 0 ≡ (eqb (s .whole) 0 && isVoid b)
+      go true h = rw (h, sym (sum-void s b h)) (sym (and-true (eqb (s .whole) 0)))
+      go false h =
+          let g = good-breath b h in
+          let n : withBreath s b .whole ≡ 0 → ⊥ = λ e. omega (arith, g .0, ap (λ (x : Sums). x .whole) (sum-good s b h)) in
+          ne-eqb _ _ n ∙ rw h (sym (and-false (eqb (s .whole) 0)))

@@ -1,0 +1,66 @@
+-- A breath and a night: durations, what is void, the ratio as a slash word.
+use Prim.Native.Nat.{ℕ, _+_, _-_, _%_, _^_}
+use mathlib.Core.Bool.{Bool, false, _||_}
+use lib.Dec.{eqb, ltb}
+use Rattle.convergents.specs.Choice.{if_then_else_}
+use Rattle.convergents.specs.Pairs.{Pair}
+use Rattle.slash.specs.Words.{numberOf, wordFor, exactRatio, pairOf, BestFor}
+use Rattle.slash.specs.declared.format.Format.{Format}
+use Rattle.breaths.specs.declared.breath.Breath.{Breath}
+use Rattle.breaths.specs.declared.breath.Sums.{Sums}
+use Rattle.breaths.specs.declared.ratio.Ratio.{Ratio}
+use Rattle.breaths.specs.declared.ratio.Ratio.the-variants.{Void, Word}
+
+-- The clock is 32 bits wide, so a duration is a difference modulo 2^32.
+unfoldable pub span : (from to : ℕ) → ℕ
+span from to = (to + (2 ^ 32 - from)) % 2 ^ 32
+
+-- in = peak - onset, whole = next - onset.
+unfoldable pub breathOf : (onset peak next : ℕ) → Breath
+breathOf onset peak next = record { inspiration = span onset peak; whole = span onset next }
+
+-- A breath is void if whole is 0 or in exceeds whole.
+unfoldable pub isVoid : Breath → Bool
+isVoid b = eqb (b .whole) 0 || ltb (b .whole) (b .inspiration)
+
+-- Ratios are rounded to fixed k = 15.
+abbrev pub format : Format
+format = record { kind = 1; k = 15 }
+
+-- The word of N/D rounded.
+unfoldable pub ratioWord : (N D : ℕ) → ℕ
+ratioWord N D = wordFor format false (exactRatio N D .value)
+
+unfoldable pub breathRatio : Breath → Ratio
+breathRatio b = if isVoid b then Void else Word (ratioWord (b .inspiration) (b .whole))
+
+-- The sums of a night: of in, and of whole, void breaths left out.
+abbrev pub noSums : Sums
+noSums = record { inspiration = 0; whole = 0 }
+
+unfoldable pub withBreath : Sums → Breath → Sums
+withBreath s b =
+    if isVoid b then s
+    else record { inspiration = s .inspiration + b .inspiration; whole = s .whole + b .whole }
+
+-- No breath is left: each that is has a whole of at least 1.
+unfoldable pub noneLeft : Sums → Bool
+noneLeft s = eqb (s .whole) 0
+
+-- The night's ratio: the sum of in over the sum of whole; it is void if none is left.
+unfoldable pub nightRatio : Sums → Ratio
+nightRatio s = if noneLeft s then Void else Word (ratioWord (s .inspiration) (s .whole))
+
+-- The word that a ratio is stored as: a void one has word 0.
+unfoldable pub wordOf : Ratio → ℕ
+wordOf Void = 0
+wordOf (Word w) = w
+
+-- A word's fraction: the pair that it is read as.
+unfoldable pub fractionOf : ℕ → Pair
+fractionOf w = pairOf (numberOf format w .value)
+
+-- Demand 3, of a ratio N/D that isn't void: no pair that the format holds does better than the word's.
+unfoldable pub BestRatio : (N D : ℕ) → Ratio → Type 0
+BestRatio N D Void = Unit {0}
+BestRatio N D (Word w) = BestFor format N D w

@@ -1,0 +1,3 @@
+-- What the papers say of a breath and of a night, in their order.
+pub mod Breaths
+pub mod Shown

@@ -1,0 +1,20 @@
+-- What holds of the ratios of breaths and nights, for those that print them.
+use Prim.Native.Nat.{ℕ, _≤_}
+use Rattle.breaths.specs.Breaths.{fractionOf}
+use Rattle.breaths.specs.declared.breath.Sums.{Sums}
+use Rattle.breaths.specs.declared.ratio.Ratio.{Ratio}
+use Rattle.breaths.specs.declared.ratio.Ratio.the-variants.{Void, Word}
+
+-- A word of a ratio from 0 to 1, as every ratio of a breath or of a night is.
+pub record Shown (w : ℕ) : Type 0 where
+  pub some : 1 ≤ fractionOf w .denominator
+  pub proper : fractionOf w .numerator ≤ fractionOf w .denominator
+  pub small : fractionOf w .denominator ≤ 32767
+
+abbrev pub ShownRatio : Ratio → Type 0
+ShownRatio Void = Unit {0}
+ShownRatio (Word w) = Shown w
+
+-- Sums of breaths that aren't void: in doesn't exceed whole.
+abbrev pub Proper : Sums → Type 0
+Proper s = s .inspiration ≤ s .whole

@@ -1,0 +1,190 @@
+-- Reading a line of three tick marks in one pass. Assumes nothing.
+use mathlib.Core.Path.{_≡_, refl, sym, ap, _∙_, subst}
+use mathlib.Core.Bool.{Bool, true, false, _&&_}
+use mathlib.Core.Logic.{_⊎_, inl, inr, ⊎-elim}
+use mathlib.Core.List.{List, [], _∷_, _++_, append-assoc, append-nil}
+use Prim.Native.Nat.{ℕ, zero, suc, _+_, _-_, _*_, _≤_, _<_}
+use native.Mathlib.Omega.{arith}
+use native.Mathlib.Nat.{add-zero}
+use lib.Dec.{eqb, leb}
+use lib.ListN.{length, getD, take, drop, length-append, length-take, length-drop}
+use lib.Seq.{length-take-le, split-at, take-at, drop-at, drop-drop, getD-take, getD-drop}
+use borrow.Author.Tests.{ne-eqb}
+use Rattle.breaths.specs.Breaths.{breathOf}
+use Rattle.recording.specs.Lines.{isDigit, digitsFrom, lengthBefore, inFirst, fields, fromMarks, fromFields, readLine}
+use Rattle.recording.specs.Starts.{Led, Opens, Opened, Sought}
+use Rattle.breaths.specs.declared.breath.Breath.{Breath}
+use Rattle.recording.specs.declared.line.Mark.the-variants.{Tick}
+use Rattle.recording.specs.declared.line.Ended.{Ended}
+use Rattle.recording.specs.declared.line.Entry.{Entry}
+use Rattle.recording.specs.declared.line.Line.the-variants.{Read}
+use Rattle.recording.specs.declared.line.Pass.{Pass}
+use Rattle.recording.specs.declared.line.Pass.the-variants as Pass
+use Rattle.recording.specs.declared.line.Start.{Start}
+use Rattle.recording.specs.declared.line.Start.the-variants as Start
+use Rattle.recording.proofs.LineLaws.{before-step, before-le, digits-step, no-tick, digit-bounds, mark-digits, fields-step, fields-whole, line-read}
+
+-- ---- a tick mark and the byte that ends it
+
+pub opens : {bs : List ℕ} {from v k : ℕ} (e : ℕ) → Led bs from v k → (k ≡ length bs → ⊥) → getD bs k 0 ≡ e → (k ≡ from → ⊥)
+    → (getD bs from 0 ≡ 48 → ⊥) ⊎ (k ≤ from + 1) → Opens bs from e v (k + 1)
+opens {bs} {from} {v} {k} e l within ended some lead =
+    let rest : List ℕ = drop from bs in
+    let c : ℕ = l .count in
+    let more : c < length rest = omega (arith, l .place, l .within, length-drop from bs) in
+    let positive : 1 ≤ c = omega (arith, l .place) in
+    let long : length (take c rest) ≡ c = length-take-le c rest (omega arith) in
+    let first : getD (take c rest) 0 0 ≡ getD bs from 0 =
+    getD-take c rest 0 0 (omega arith) ∙ getD-drop from bs 0 0 ∙ ap (λ (j : ℕ). getD bs j 0) (add-zero from)
+    in
+    let leads : (getD (take c rest) 0 0 ≡ 48 → ⊥) ⊎ (length (take c rest) ≤ 1) =
+    ⊎-elim (λ n. inl (λ z. n (sym first ∙ z))) (λ s. inr (omega (arith, l .place))) lead
+    in
+    let last : getD rest c 0 ≡ e = getD-drop from bs c 0 ∙ ap (λ (j : ℕ). getD bs j 0) (sym (l .place)) ∙ ended in
+    record {
+      field = take c rest;
+      rest = drop (suc c) rest;
+      bytes = split-at rest c 0 more ∙ ap (λ (x : ℕ). take c rest ++ (x ∷ drop (suc c) rest)) last;
+      digits = l .taken;
+      mark = sym (mark-digits (take c rest) (omega arith) leads) ∙ l .taken;
+      place = omega (arith, l .place, long);
+    }
+
+module _ {bs : List ℕ} {from e : ℕ} where
+  pub opened : {s : Start} → Opened bs from e s → (x : Ended) → s ≡ Start.Mark x → Opens bs from e (x .ticks) (x .behind)
+  opened o x d = subst (Opened bs from e) d o
+
+  module _ {t u : ℕ} (o : Opens bs from e t u) where
+    pub opens-within : u ≤ length bs
+    opens-within = omega (arith, o .place, ap length (o .bytes), length-append (o .field) (e ∷ o .rest), length-drop from bs)
+
+    rest-is : drop u bs ≡ o .rest
+    rest-is =
+        let front : List ℕ = o .field ++ (e ∷ []) in
+        let whole : drop from bs ≡ front ++ o .rest = o .bytes ∙ sym (append-assoc (o .field) (e ∷ []) (o .rest)) in
+        let long : length front ≡ suc (length (o .field)) = omega (arith, length-append (o .field) (e ∷ [])) in
+        ap (λ (j : ℕ). drop j bs) (o .place) ∙ sym (drop-drop (suc (length (o .field))) from bs) ∙ ap (drop (suc (length (o .field)))) whole
+        ∙ drop-at front (o .rest) (suc (length (o .field))) long
+
+-- ---- digits hold no tab and no line feed
+
+module _ (b : ℕ) (low : b < 48) where
+  before-digits : (v : ℕ) (f : List ℕ) (t : ℕ) → digitsFrom v f ≡ Tick t → (r : List ℕ) → lengthBefore b (f ++ r) ≡ length f + lengthBefore b r
+  before-digits v [] t e r = omega arith
+  before-digits v (x ∷ xs) t e r = go (isDigit x && leb (v * 10 + (x - 48)) 4294967295) refl (before-digits (v * 10 + (x - 48)) xs t)
+    where
+      go : (s : Bool) → (isDigit x && leb (v * 10 + (x - 48)) 4294967295) ≡ s
+          → (digitsFrom (v * 10 + (x - 48)) xs ≡ Tick t → (r : List ℕ) → lengthBefore b (xs ++ r) ≡ length xs + lengthBefore b r)
+          → lengthBefore b (x ∷ (xs ++ r)) ≡ suc (length xs) + lengthBefore b r
+      go false f ih = absurd (no-tick t (sym (digits-step v x xs false f) ∙ e))
+      go true f ih =
+          let other : x ≡ b → ⊥ = λ z. omega (arith, digit-bounds x _ f .0) in
+          omega (arith, before-step b x (xs ++ r) false (ne-eqb x b other), ih (sym (digits-step v x xs true f) ∙ e) r)
+
+fields-digits : (v : ℕ) (f : List ℕ) (t : ℕ) → digitsFrom v f ≡ Tick t → (r : List ℕ) → fields (f ++ (9 ∷ r)) ≡ f ∷ fields r
+fields-digits v [] t e r = fields-step 9 r true refl
+fields-digits v (x ∷ xs) t e r = go (isDigit x && leb (v * 10 + (x - 48)) 4294967295) refl (fields-digits (v * 10 + (x - 48)) xs t)
+  where
+    go : (s : Bool) → (isDigit x && leb (v * 10 + (x - 48)) 4294967295) ≡ s
+        → (digitsFrom (v * 10 + (x - 48)) xs ≡ Tick t → (r : List ℕ) → fields (xs ++ (9 ∷ r)) ≡ xs ∷ fields r)
+        → fields (x ∷ (xs ++ (9 ∷ r))) ≡ (x ∷ xs) ∷ fields r
+    go false f ih = absurd (no-tick t (sym (digits-step v x xs false f) ∙ e))
+    go true f ih =
+        let other : x ≡ 9 → ⊥ = λ z. omega (arith, digit-bounds x _ f .0) in
+        fields-step x (xs ++ (9 ∷ r)) false (ne-eqb x 9 other) ∙ ap (inFirst x) (ih (sym (digits-step v x xs true f) ∙ e) r)
+
+fields-last : (f : List ℕ) (t : ℕ) → digitsFrom 0 f ≡ Tick t → fields f ≡ f ∷ []
+fields-last f t e =
+    fields-whole f (omega (arith, before-digits 9 (omega arith) 0 f t e [], ap (lengthBefore 9) (append-nil f), before-le 9 []))
+
+-- a byte that stands among the first n stands there as well where only those are looked at
+before-take : (b n : ℕ) (bs : List ℕ) → lengthBefore b bs < n → lengthBefore b (take n bs) ≡ lengthBefore b bs
+before-take b zero bs h = absurd (omega arith)
+before-take b (suc n) [] h = refl
+before-take b (suc n) (x ∷ xs) h = go (eqb x b) refl (before-take b n xs)
+  where
+    go : (t : Bool) → eqb x b ≡ t → (lengthBefore b xs < n → lengthBefore b (take n xs) ≡ lengthBefore b xs)
+        → lengthBefore b (x ∷ take n xs) ≡ lengthBefore b (x ∷ xs)
+    go true e ih = before-step b x (take n xs) true e ∙ sym (before-step b x xs true e)
+    go false e ih =
+        let s = before-step b x xs false e in
+        before-step b x (take n xs) false e ∙ ap suc (ih (omega (arith, h, s))) ∙ sym s
+
+-- ---- three marks
+
+module _ {bs : List ℕ} {o p n i j k : ℕ} (x : Opens bs 0 9 o i) (y : Opens bs i 9 p j) (z : Opens bs j 10 n k) where
+  -- the line without its line feed
+  abbrev line : List ℕ
+  line = x .field ++ (9 ∷ (y .field ++ (9 ∷ z .field)))
+
+  behind-peak : x .rest ≡ y .field ++ (9 ∷ (z .field ++ (10 ∷ z .rest)))
+  behind-peak = sym (rest-is x) ∙ y .bytes ∙ ap (λ (r : List ℕ). y .field ++ (9 ∷ r)) (sym (rest-is y) ∙ z .bytes)
+
+  all-bytes : bs ≡ x .field ++ (9 ∷ (y .field ++ (9 ∷ (z .field ++ (10 ∷ z .rest)))))
+  all-bytes = x .bytes ∙ ap (λ (r : List ℕ). x .field ++ (9 ∷ r)) behind-peak
+
+  as-line : bs ≡ line ++ (10 ∷ z .rest)
+  as-line =
+      all-bytes
+      ∙ ap (λ (r : List ℕ). x .field ++ (9 ∷ r)) (sym (append-assoc (y .field) (9 ∷ z .field) (10 ∷ z .rest)))
+      ∙ sym (append-assoc (x .field) (9 ∷ (y .field ++ (9 ∷ z .field))) (10 ∷ z .rest))
+
+  line-length : k ≡ suc (length line)
+  line-length =
+      omega (
+        arith,
+        x .place,
+        y .place,
+        z .place,
+        length-append (x .field) (9 ∷ (y .field ++ (9 ∷ z .field))),
+        length-append (y .field) (9 ∷ z .field),
+      )
+
+  feed : lengthBefore 10 bs ≡ length line
+  feed =
+      let tens : 10 < 48 = omega arith in
+      let c : List ℕ = z .field ++ (10 ∷ z .rest) in
+      let b : List ℕ = y .field ++ (9 ∷ c) in
+      omega (
+        arith,
+        ap (lengthBefore 10) all-bytes,
+        before-digits 10 tens 0 (x .field) o (x .digits) (9 ∷ b),
+        before-step 10 9 b false refl,
+        before-digits 10 tens 0 (y .field) p (y .digits) (9 ∷ c),
+        before-step 10 9 c false refl,
+        before-digits 10 tens 0 (z .field) n (z .digits) (10 ∷ z .rest),
+        before-step 10 10 (z .rest) true refl,
+        x .place,
+        y .place,
+        z .place,
+        line-length,
+      )
+
+  three-fields : fields line ≡ x .field ∷ y .field ∷ z .field ∷ []
+  three-fields =
+      fields-digits 0 (x .field) o (x .digits) (y .field ++ (9 ∷ z .field))
+      ∙ ap (λ (l : List (List ℕ)). x .field ∷ l)
+      (fields-digits 0 (y .field) p (y .digits) (z .field) ∙ ap (λ (l : List (List ℕ)). y .field ∷ l) (fields-last (z .field) n (z .digits)))
+
+  marks : (used : ℕ) → fromFields used (x .field ∷ y .field ∷ z .field ∷ []) ≡ Read (record { breath = breathOf o p n; used = used })
+  unfolding fromFields fromMarks
+  marks used = rw (x .mark, y .mark, z .mark) refl
+
+  pub breath-read : (b : Breath) → b ≡ breathOf o p n → k ≤ 33 → Read (record { breath = b; used = k }) ≡ readLine bs
+  breath-read b be short =
+      let few : lengthBefore 10 (take 33 bs) ≡ length line = before-take 10 33 bs (omega (arith, feed, line-length)) ∙ feed in
+      let long : length bs ≡ length line + suc (length (z .rest)) = ap length as-line ∙ length-append line (10 ∷ z .rest) in
+      let within : lengthBefore 10 (take 33 bs) < length (take 33 bs) = omega (arith, few, long, line-length, length-take 33 bs) in
+      let taken : take (length line) bs ≡ line = ap (take (length line)) as-line ∙ take-at line (10 ∷ z .rest) (length line) refl in
+      sym (
+      sym (line-read bs within)
+      ∙ ap (λ (m : ℕ). fromFields (suc m) (fields (take m bs))) few
+      ∙ ap (λ (l : List ℕ). fromFields (suc (length line)) (fields l)) taken
+      ∙ ap (fromFields (suc (length line))) three-fields
+      ∙ marks (suc (length line))
+      ∙ ap (λ (u : ℕ). Read (record { breath = breathOf o p n; used = u })) (sym line-length)
+      ∙ ap (λ (c : Breath). Read (record { breath = c; used = k })) (sym be)
+      )
+
+pub sought : (bs : List ℕ) (s : Pass) → Sought bs s → (x : Entry) → s ≡ Pass.Breath x → Read x ≡ readLine bs
+sought bs s w x d = subst (Sought bs) d w

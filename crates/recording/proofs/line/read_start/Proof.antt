@@ -1,0 +1,55 @@
+-- `recording::line::read_start` meets its contract. Assumes nothing.
+use Rattle.recording.proofs.StartLaws.{opens}
+use mathlib.Core.Logic.{⊎-elim, inl, inr}
+use borrow.Author.Needs.{needs}
+use Rattle.recording.proofs.line.read_start.Statement.{statement}
+use Rattle.recording.proofs.line.read_start.Tie as tie
+
+leading-digits-requires : tie.Need-leading-digits-requires
+leading-digits-requires c κs = search needs
+
+returns : tie.Need-returns
+returns c = search needs
+
+shared-slice-read-if2 : tie.Need-shared-slice-read-if2
+shared-slice-read-if2 c = search needs
+
+returns-2 : tie.Need-returns-2
+returns-2 c = search needs
+
+returns-3 : tie.Need-returns-3
+returns-3 c = search needs
+
+shared-slice-read-if4 : tie.Need-shared-slice-read-if4
+shared-slice-read-if4 c = search needs
+
+add-if5 : tie.Need-add-if5
+add-if5 c = search needs
+
+returns-4 : tie.Need-returns-4
+returns-4 c = search needs
+
+cast-t13 : tie.Need-cast-t13
+cast-t13 c = search needs
+
+add-t6 : tie.Need-add-t6
+add-t6 c = search needs
+
+returns-5 : tie.Need-returns-5
+returns-5 c = opens _ (c .before .before .before .before .before .before .before .leading-digits .ensures) (c .before .before .before .before .before .before .if1 .left) (c .before .before .before .before .if2 .left) (c .before .before .before .if3 .left) (⊎-elim (λ w. inr (w .1 .left)) (λ w. inl (w .left)) (c .before .if4 .came))
+
+pub read-start-spec : {M : Type 1} → statement M
+read-start-spec =
+    tie.close
+    (tie.spec
+    leading-digits-requires
+    returns
+    shared-slice-read-if2
+    returns-2
+    returns-3
+    shared-slice-read-if4
+    add-if5
+    returns-4
+    cast-t13
+    add-t6
+    returns-5)
