@@ -77,7 +77,8 @@ extern "C" {
 #define SLASH_LISTING_BYTES 2162719
 
 /* Stores the word, of sign 0, of n/d rounded into the format: the last convergent that it holds,
- * marked if its value isn't n/d. No other held pair comes closer. Stops 1, 6. */
+ * marked if its value isn't n/d. Every other held pair r/s has a larger miss (the size of s * n - r * d),
+ * or an equal miss and a larger sum r + s. Stops 1, 6. */
 uint64_t slash_round(uint64_t kind, uint64_t k, uint64_t n, uint64_t d, uint64_t *word);
 
 /* Stores the word of left + right, left - right, left * right or left / right: the exact result,

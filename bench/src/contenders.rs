@@ -1,6 +1,5 @@
 //! Each contender runs a row's inputs and gives the checksum of its results.
 
-use slash::raw;
 use std::hint::black_box;
 
 /// What a row asks for; a vector's operations apply to all inputs by one call.
@@ -48,106 +47,89 @@ fn folded_list(list: &[u32], count: u64) -> u64 {
     folded(std::iter::once(count).chain(quotients))
 }
 
-/// The archive, by its C interface.
-pub fn archive(row: &Row, count: usize) -> u64 {
-    let ((kind, k), (to_kind, to_k)) = (black_box(row.form), black_box(row.target));
-    let (inputs, left, right) = (
-        &row.inputs[..count],
-        &row.left[..count],
-        &row.right[..count],
-    );
-    let mut word = 0;
-    let mut list = [0; 64];
-    let mut out = vec![0; count];
-    let (l, r, o) = (left.as_ptr(), right.as_ptr(), out.as_mut_ptr());
-    // SAFETY: the pointers are those of live numbers and vectors, with their lengths.
-    let status = unsafe {
-        match row.operation {
-            Round => {
-                return each(inputs, |n, d| {
-                    raw::slash_round(kind, k, n, d, &mut word);
-                    word
-                })
-            }
-            Binary(code) => {
-                return each(inputs, |a, b| {
-                    raw::slash_binary(kind, k, code, a, b, &mut word);
-                    word
-                })
-            }
-            Compare => {
-                return each(inputs, |a, b| {
-                    raw::slash_compare(kind, k, a, b, &mut word);
-                    word
-                })
-            }
-            Unary(code) => {
-                return each(inputs, |a, _| {
-                    raw::slash_unary(kind, k, code, a, &mut word);
-                    word
-                })
-            }
-            Gcd => {
-                return each(inputs, |a, _| {
-                    raw::slash_gcd(kind, k, a, &mut word);
-                    word
-                })
-            }
-            Quotients => {
-                return each(inputs, |a, _| {
-                    raw::slash_quotients(kind, k, a, list.as_mut_ptr(), list.len(), &mut word);
-                    folded_list(&list, word)
-                })
-            }
-            Convert => {
-                return each(inputs, |a, _| {
-                    raw::slash_convert(kind, k, to_kind, to_k, a, &mut word);
-                    word
-                })
-            }
-            BinaryEach(code) => raw::slash_binary_each(kind, k, code, l, count, r, count, o, count),
-            UnaryEach(code) => raw::slash_unary_each(kind, k, code, l, count, o, count),
-            ConvertEach => raw::slash_convert_each(kind, k, to_kind, to_k, l, count, o, count),
+/// A contender behind the C interface, so that what calls cost is the same for each.
+macro_rules! through_c {
+    ($(#[$about:meta])* $name:ident, $calls:path) => {
+        $(#[$about])*
+        pub fn $name(row: &Row, count: usize) -> u64 {
+            use $calls as calls;
+            let ((kind, k), (to_kind, to_k)) = (black_box(row.form), black_box(row.target));
+            let (inputs, left, right) = (
+                &row.inputs[..count],
+                &row.left[..count],
+                &row.right[..count],
+            );
+            let mut word = 0;
+            let mut list = [0; 64];
+            let mut out = vec![0; count];
+            let (l, r, o) = (left.as_ptr(), right.as_ptr(), out.as_mut_ptr());
+            // SAFETY: the pointers are those of live numbers and vectors, with their lengths.
+            let status = unsafe {
+                match row.operation {
+                    Round => {
+                        return each(inputs, |n, d| {
+                            calls::slash_round(kind, k, n, d, &mut word);
+                            word
+                        })
+                    }
+                    Binary(code) => {
+                        return each(inputs, |a, b| {
+                            calls::slash_binary(kind, k, code, a, b, &mut word);
+                            word
+                        })
+                    }
+                    Compare => {
+                        return each(inputs, |a, b| {
+                            calls::slash_compare(kind, k, a, b, &mut word);
+                            word
+                        })
+                    }
+                    Unary(code) => {
+                        return each(inputs, |a, _| {
+                            calls::slash_unary(kind, k, code, a, &mut word);
+                            word
+                        })
+                    }
+                    Gcd => {
+                        return each(inputs, |a, _| {
+                            calls::slash_gcd(kind, k, a, &mut word);
+                            word
+                        })
+                    }
+                    Quotients => {
+                        return each(inputs, |a, _| {
+                            calls::slash_quotients(kind, k, a, list.as_mut_ptr(), list.len(), &mut word);
+                            folded_list(&list, word)
+                        })
+                    }
+                    Convert => {
+                        return each(inputs, |a, _| {
+                            calls::slash_convert(kind, k, to_kind, to_k, a, &mut word);
+                            word
+                        })
+                    }
+                    BinaryEach(code) => calls::slash_binary_each(kind, k, code, l, count, r, count, o, count),
+                    UnaryEach(code) => calls::slash_unary_each(kind, k, code, l, count, o, count),
+                    ConvertEach => calls::slash_convert_each(kind, k, to_kind, to_k, l, count, o, count),
+                }
+            };
+            assert_eq!(status, 0);
+            folded(out.into_iter())
         }
     };
-    assert_eq!(status, 0);
-    folded(out.into_iter())
 }
 
-/// The hand-written Rust.
-pub fn hand(row: &Row, count: usize) -> u64 {
-    let ((kind, k), (to_kind, to_k)) = (black_box(row.form), black_box(row.target));
-    let (inputs, left, right) = (
-        &row.inputs[..count],
-        &row.left[..count],
-        &row.right[..count],
-    );
-    let mut list = [0; 64];
-    let mut out = vec![0; count];
-    let good = |answer: hand::Answer| answer.unwrap_or(u64::MAX);
-    match row.operation {
-        Round => return each(inputs, |n, d| good(hand::round(kind, k, n, d))),
-        Binary(code) => return each(inputs, |a, b| good(hand::binary(kind, k, code, a, b))),
-        Compare => return each(inputs, |a, b| good(hand::compare(kind, k, a, b))),
-        Unary(code) => return each(inputs, |a, _| good(hand::unary(kind, k, code, a))),
-        Gcd => return each(inputs, |a, _| good(hand::gcd(kind, k, a))),
-        Quotients => {
-            return each(inputs, |a, _| {
-                let count = good(hand::quotients(kind, k, a, &mut list));
-                folded_list(&list, count)
-            })
-        }
-        Convert => {
-            return each(inputs, |a, _| {
-                good(hand::convert(kind, k, to_kind, to_k, a))
-            })
-        }
-        BinaryEach(code) => good(hand::binary_each(kind, k, code, left, right, &mut out)),
-        UnaryEach(code) => good(hand::unary_each(kind, k, code, left, &mut out)),
-        ConvertEach => good(hand::convert_each(kind, k, to_kind, to_k, left, &mut out)),
-    };
-    folded(out.into_iter())
-}
+through_c!(
+    /// The archive.
+    archive,
+    slash::raw
+);
+
+through_c!(
+    /// The hand-written Rust.
+    hand,
+    hand_calls
+);
 
 extern "C" {
     fn gmp_start();

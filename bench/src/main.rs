@@ -25,7 +25,7 @@ const CALLS: usize = 5_000;
 const PYTHON_CALLS: usize = 1_000;
 
 /// The rounds of whole processes.
-const PROCESS_ROUNDS: usize = 11;
+const PROCESS_ROUNDS: usize = 31;
 
 const BREATHS: usize = 65_536;
 
@@ -324,11 +324,11 @@ fn whole_processes(input: &Path, script: &Path, night: &str) -> String {
     }
     let mut table = format!(
         "Whole processes, from a file to the null device, medians of {PROCESS_ROUNDS} rounds, and how \
-         many times as long as {} each takes.\n\n| | ms | |\n|---|--:|--:|\n",
-        processes[0].0
+         many times as long as `cat` each takes.\n\n| | ms | × `cat` |\n|---|--:|--:|\n"
     );
+    let floor = times.last().expect("`cat`");
     for (process, spent) in processes.iter().zip(&times) {
-        let ratio = ratio(&times[0], spent);
+        let ratio = ratio(floor, spent);
         writeln!(
             table,
             "| {} | {:.1} | {ratio:.2} |",
@@ -365,9 +365,9 @@ fn head() -> String {
         .expect("date");
     format!(
         "# Speed\n\nWritten by `bench/run` on {}, on {model}. Medians of {ROUNDS} rounds in which the \
-         contenders take turns; inputs are random and the same for each, and the results' checksums \
+         contenders take turns; a ratio is the median of the rounds' ratios, not the ratio of two medians; inputs are random and the same for each, and the results' checksums \
          were equal. The archive is the proved library. The hand-written Rust is `bench/hand`: the same \
-         algorithm, optimised. GMP's rationals with the continued fraction cut in C are `bench/gmp.c`; \
+         algorithm, optimised, called through the same C interface. GMP's rationals with the continued fraction cut in C are `bench/gmp.c`; \
          Python's Fraction is `bench/python_contender.py`.\n\n",
         String::from_utf8_lossy(&date.stdout).trim()
     )

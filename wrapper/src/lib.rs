@@ -1,7 +1,7 @@
 //! Slash arithmetic for breath ratios: safe functions over the proved archive.
 //!
 //! A word is a `u64` that a [`Format`] tells how to read. A refused call returns a [`Stop`] and changes
-//! nothing that was lent to it.
+//! nothing that was lent to it. A refused recording has its listing, which ends in the stop.
 
 use std::cmp::Ordering;
 use std::fmt;

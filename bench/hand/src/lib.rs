@@ -219,6 +219,7 @@ fn cut(form: Form, mut n: u64, mut d: u64) -> (u64, u64, bool) {
 
 // The functions on words.
 
+#[inline]
 pub fn round(kind: u64, k: u64, n: u64, d: u64) -> Answer {
     let form = form(kind, k)?;
     if d == 0 {
@@ -290,6 +291,7 @@ fn operate(form: Form, code: u64, left: Number, mut right: Number) -> u64 {
     write(form, result)
 }
 
+#[inline]
 pub fn binary(kind: u64, k: u64, code: u64, left: u64, right: u64) -> Answer {
     let form = form(kind, k)?;
     if !(1..=4).contains(&code) {
@@ -300,6 +302,7 @@ pub fn binary(kind: u64, k: u64, code: u64, left: u64, right: u64) -> Answer {
 }
 
 /// 0 below, 1 equal, 2 above, 3 unordered.
+#[inline]
 pub fn compare(kind: u64, k: u64, left: u64, right: u64) -> Answer {
     let form = form(kind, k)?;
     let (left, right) = (read(form, left)?, read(form, right)?);
@@ -329,6 +332,7 @@ pub fn compare(kind: u64, k: u64, left: u64, right: u64) -> Answer {
     )
 }
 
+#[inline]
 pub fn convert(kind: u64, k: u64, to_kind: u64, to_k: u64, operand: u64) -> Answer {
     let (source, target) = (form(kind, k)?, form(to_kind, to_k)?);
     Ok(write(target, read(source, operand)?))
@@ -391,6 +395,7 @@ fn change(form: Form, code: u64, operand: u64, number: Number) -> u64 {
     write(form, result)
 }
 
+#[inline]
 pub fn unary(kind: u64, k: u64, code: u64, operand: u64) -> Answer {
     let form = form(kind, k)?;
     if !(1..=7).contains(&code) {
@@ -400,6 +405,7 @@ pub fn unary(kind: u64, k: u64, code: u64, operand: u64) -> Answer {
     Ok(change(form, code, operand, number))
 }
 
+#[inline]
 pub fn gcd(kind: u64, k: u64, operand: u64) -> Answer {
     let form = form(kind, k)?;
     let Number { class, n, d, .. } = read(form, operand)?;
@@ -413,6 +419,7 @@ pub fn gcd(kind: u64, k: u64, operand: u64) -> Answer {
     Ok(a)
 }
 
+#[inline]
 pub fn quotients(kind: u64, k: u64, operand: u64, list: &mut [u32]) -> Answer {
     let form = form(kind, k)?;
     let Number { class, n, d, .. } = read(form, operand)?;
@@ -439,6 +446,7 @@ fn at(place: usize) -> impl Fn(u64) -> u64 {
     move |stop| place as u64 * 256 + stop
 }
 
+#[inline]
 pub fn binary_each(
     kind: u64,
     k: u64,
@@ -464,6 +472,7 @@ pub fn binary_each(
     Ok(0)
 }
 
+#[inline]
 pub fn unary_each(kind: u64, k: u64, code: u64, operand: &[u64], out: &mut [u64]) -> Answer {
     let form = form(kind, k)?;
     if !(1..=7).contains(&code) {
@@ -476,6 +485,7 @@ pub fn unary_each(kind: u64, k: u64, code: u64, operand: &[u64], out: &mut [u64]
     Ok(0)
 }
 
+#[inline]
 pub fn convert_each(
     kind: u64,
     k: u64,

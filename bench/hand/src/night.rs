@@ -5,8 +5,10 @@ use crate::{cut, form, put, Form};
 /// The bytes of the longest listing.
 pub const LISTING_BYTES: usize = 2_162_719;
 
-const MOST_LINES: usize = 65536;
-const MOST_BYTES: usize = 32;
+const MOST_LINES: u32 = 65536;
+
+/// The longest line, with its line feed.
+const MOST_BYTES: usize = 33;
 
 /// The listing, as far as it is written.
 struct Listing<'a> {
@@ -16,30 +18,53 @@ struct Listing<'a> {
 
 impl Listing<'_> {
     #[inline]
+    fn text<const COUNT: usize>(&mut self, text: &[u8; COUNT]) {
+        self.bytes[self.length..self.length + COUNT].copy_from_slice(text);
+        self.length += COUNT;
+    }
+
+    #[inline]
     fn byte(&mut self, byte: u8) {
-        self.bytes[self.length] = byte;
-        self.length += 1;
+        self.text(&[byte]);
     }
 
     #[inline]
-    fn text(&mut self, text: &[u8]) {
-        self.bytes[self.length..self.length + text.len()].copy_from_slice(text);
-        self.length += text.len();
+    fn two_digits(&mut self, number: u32) {
+        self.text(&[digit(number / 10), digit(number % 10)]);
     }
 
+    /// A number of one digit or two.
     #[inline]
-    fn decimal(&mut self, mut number: u64) {
-        let mut digits = [0; 20];
-        let mut start = digits.len();
-        loop {
-            start -= 1;
-            digits[start] = b'0' + (number % 10) as u8;
-            number /= 10;
-            if number == 0 {
-                break;
-            }
+    fn short(&mut self, number: u32) {
+        if number < 10 {
+            self.byte(digit(number));
+        } else {
+            self.two_digits(number);
         }
-        self.text(&digits[start..]);
+    }
+
+    /// A number of at most five digits.
+    #[inline]
+    fn decimal(&mut self, number: u32) {
+        if number < 100 {
+            self.short(number);
+        } else if number < 10_000 {
+            self.short(number / 100);
+            self.two_digits(number % 100);
+        } else {
+            self.byte(digit(number / 10_000));
+            self.two_digits(number / 100 % 100);
+            self.two_digits(number % 100);
+        }
+    }
+
+    #[inline]
+    fn hexadecimal(&mut self, word: u32) {
+        let mut digits = [0; 8];
+        for (place, digit) in digits.iter_mut().rev().enumerate() {
+            *digit = b"0123456789abcdef"[(word >> (4 * place) & 15) as usize];
+        }
+        self.text(&digits);
     }
 
     /// The columns after the name: the word, its fraction and its percentage.
@@ -50,10 +75,9 @@ impl Listing<'_> {
         }
         let (n, d, changed) = cut(stored, inward, whole);
         let word = put(stored, false, changed, n, d);
+        let (n, d) = (n as u32, d as u32);
         self.byte(b'\t');
-        for place in (0..8).rev() {
-            self.byte(b"0123456789abcdef"[(word >> (4 * place) & 15) as usize]);
-        }
+        self.hexadecimal(word as u32);
         self.byte(b'\t');
         self.decimal(n);
         self.byte(b'/');
@@ -61,22 +85,26 @@ impl Listing<'_> {
         self.byte(b'\t');
         let tenths = (2000 * n + d) / (2 * d);
         self.decimal(tenths / 10);
-        self.byte(b'.');
-        self.decimal(tenths % 10);
-        self.byte(b'\n');
+        self.text(&[b'.', digit(tenths % 10), b'\n']);
     }
 
-    fn refused(&mut self, number: u64, line: usize) -> usize {
+    fn refused(&mut self, number: u32, line: u32) -> usize {
         self.text(b"refused\t");
         self.decimal(number);
         self.byte(b'\t');
-        self.decimal(line as u64);
+        self.decimal(line);
         self.byte(b'\n');
         self.length
     }
 }
 
+#[inline]
+fn digit(number: u32) -> u8 {
+    b'0' + number as u8
+}
+
 /// Writes the listing of a recording and returns its length.
+#[inline]
 pub fn night(recording: &[u8], bytes: &mut [u8]) -> usize {
     let mut listing = Listing { bytes, length: 0 };
     let Ok(stored) = form(1, 15) else {
@@ -91,23 +119,18 @@ pub fn night(recording: &[u8], bytes: &mut [u8]) -> usize {
         if line > MOST_LINES {
             return listing.refused(8, line);
         }
-        let window = &rest[..rest.len().min(MOST_BYTES + 1)];
-        let Some(end) = window.iter().position(|&byte| byte == b'\n') else {
-            return listing.refused(9, line);
-        };
-        let [onset, peak, next] = match marks(&rest[..end]) {
-            Ok(marks) => marks,
-            Err(stop) => return listing.refused(stop, line),
+        let Some(([onset, peak, next], used)) = marks(rest) else {
+            return listing.refused(stop(rest), line);
         };
         let inward = u64::from(peak.wrapping_sub(onset));
         let whole = u64::from(next.wrapping_sub(onset));
-        listing.decimal(line as u64);
+        listing.decimal(line);
         listing.columns(stored, inward, whole);
         if inward <= whole {
             in_sum += inward;
             whole_sum += whole;
         }
-        rest = &rest[end + 1..];
+        rest = &rest[used..];
         line += 1;
     }
     listing.text(b"all");
@@ -115,31 +138,45 @@ pub fn night(recording: &[u8], bytes: &mut [u8]) -> usize {
     listing.length
 }
 
-/// The three tick marks of a line.
+/// The three tick marks of the line at the start of some bytes, and the bytes that the line uses.
 #[inline]
-fn marks(line: &[u8]) -> Result<[u32; 3], u64> {
-    let mut marks = [0u64; 3];
-    let (mut field, mut start, mut bad) = (0, 0, false);
-    for (at, &byte) in line.iter().enumerate() {
-        if byte == b'\t' {
-            bad |= at == start;
-            field += 1;
-            start = at + 1;
-            if field == 3 {
-                return Err(10);
-            }
-            continue;
+fn marks(bytes: &[u8]) -> Option<([u32; 3], usize)> {
+    let (onset, peak_at) = mark(bytes, 0, b'\t')?;
+    let (peak, next_at) = mark(bytes, peak_at, b'\t')?;
+    let (next, used) = mark(bytes, next_at, b'\n')?;
+    (used <= MOST_BYTES).then_some(([onset, peak, next], used))
+}
+
+/// The tick mark from a place on that the byte `end` ends, and the place behind both.
+#[inline]
+fn mark(bytes: &[u8], from: usize, end: u8) -> Option<(u32, usize)> {
+    let (mut value, mut at) = (0u64, from);
+    loop {
+        let byte = *bytes.get(at)?;
+        at += 1;
+        if !byte.is_ascii_digit() {
+            let digits = at - 1 - from;
+            let good = byte == end && digits > 0 && (digits == 1 || bytes[from] != b'0');
+            return good.then_some((value as u32, at));
         }
-        // A leading zero is one that another digit follows.
-        bad |= !byte.is_ascii_digit() || at > start && marks[field] == 0;
-        marks[field] = (marks[field] * 10 + u64::from(byte.wrapping_sub(b'0'))).min(1 << 40);
+        value = value * 10 + u64::from(byte - b'0');
+        if value > u64::from(u32::MAX) {
+            return None;
+        }
     }
-    if field != 2 {
-        return Err(10);
+}
+
+/// Why a line that isn't three tick marks is refused.
+#[cold]
+fn stop(bytes: &[u8]) -> u32 {
+    let window = &bytes[..bytes.len().min(MOST_BYTES)];
+    let Some(end) = window.iter().position(|&byte| byte == b'\n') else {
+        return 9;
+    };
+    let tabs = window[..end].iter().filter(|&&byte| byte == b'\t').count();
+    if tabs == 2 {
+        11
+    } else {
+        10
     }
-    bad |= start == line.len() || marks.iter().any(|&mark| mark > u64::from(u32::MAX));
-    if bad {
-        return Err(11);
-    }
-    Ok(marks.map(|mark| mark as u32))
 }

@@ -1,5 +1,7 @@
 //! The hand-written Rust of bench/hand under the archive's names and with its C interface.
 //!
+//! With the feature `unnamed` the names stay Rust's own, so that a program can link the archive too.
+//!
 //! # Safety
 //!
 //! As for the archive: pointers are aligned and not null, and have the lengths that are given.
@@ -22,12 +24,12 @@ fn status(answer: hand::Answer) -> u64 {
     answer.err().unwrap_or(0)
 }
 
-#[no_mangle]
+#[cfg_attr(not(feature = "unnamed"), no_mangle)]
 pub unsafe extern "C" fn slash_round(kind: u64, k: u64, n: u64, d: u64, word: *mut u64) -> u64 {
     store(hand::round(kind, k, n, d), word)
 }
 
-#[no_mangle]
+#[cfg_attr(not(feature = "unnamed"), no_mangle)]
 pub unsafe extern "C" fn slash_binary(
     kind: u64,
     k: u64,
@@ -39,7 +41,7 @@ pub unsafe extern "C" fn slash_binary(
     store(hand::binary(kind, k, code, left, right), word)
 }
 
-#[no_mangle]
+#[cfg_attr(not(feature = "unnamed"), no_mangle)]
 pub unsafe extern "C" fn slash_unary(
     kind: u64,
     k: u64,
@@ -50,7 +52,7 @@ pub unsafe extern "C" fn slash_unary(
     store(hand::unary(kind, k, code, operand), word)
 }
 
-#[no_mangle]
+#[cfg_attr(not(feature = "unnamed"), no_mangle)]
 pub unsafe extern "C" fn slash_compare(
     kind: u64,
     k: u64,
@@ -61,12 +63,12 @@ pub unsafe extern "C" fn slash_compare(
     store(hand::compare(kind, k, left, right), order)
 }
 
-#[no_mangle]
+#[cfg_attr(not(feature = "unnamed"), no_mangle)]
 pub unsafe extern "C" fn slash_gcd(kind: u64, k: u64, operand: u64, divisor: *mut u64) -> u64 {
     store(hand::gcd(kind, k, operand), divisor)
 }
 
-#[no_mangle]
+#[cfg_attr(not(feature = "unnamed"), no_mangle)]
 pub unsafe extern "C" fn slash_convert(
     kind: u64,
     k: u64,
@@ -78,7 +80,7 @@ pub unsafe extern "C" fn slash_convert(
     store(hand::convert(kind, k, to_kind, to_k, operand), word)
 }
 
-#[no_mangle]
+#[cfg_attr(not(feature = "unnamed"), no_mangle)]
 pub unsafe extern "C" fn slash_quotients(
     kind: u64,
     k: u64,
@@ -91,7 +93,7 @@ pub unsafe extern "C" fn slash_quotients(
     store(hand::quotients(kind, k, operand, list), count)
 }
 
-#[no_mangle]
+#[cfg_attr(not(feature = "unnamed"), no_mangle)]
 pub unsafe extern "C" fn slash_binary_each(
     kind: u64,
     k: u64,
@@ -111,7 +113,7 @@ pub unsafe extern "C" fn slash_binary_each(
     status(hand::binary_each(kind, k, code, left, right, out))
 }
 
-#[no_mangle]
+#[cfg_attr(not(feature = "unnamed"), no_mangle)]
 pub unsafe extern "C" fn slash_unary_each(
     kind: u64,
     k: u64,
@@ -126,7 +128,7 @@ pub unsafe extern "C" fn slash_unary_each(
     status(hand::unary_each(kind, k, code, operand, out))
 }
 
-#[no_mangle]
+#[cfg_attr(not(feature = "unnamed"), no_mangle)]
 pub unsafe extern "C" fn slash_convert_each(
     kind: u64,
     k: u64,
@@ -142,7 +144,7 @@ pub unsafe extern "C" fn slash_convert_each(
     status(hand::convert_each(kind, k, to_kind, to_k, operand, out))
 }
 
-#[no_mangle]
+#[cfg_attr(not(feature = "unnamed"), no_mangle)]
 pub unsafe extern "C" fn slash_night(
     recording: *const u8,
     recording_length: usize,
