@@ -1,6 +1,6 @@
 -- Laws of the binary operations, where the cases of the operands aren't enough. Assumes nothing.
-use mathlib.Core.Path.{_≡_, refl, sym, ap, _∙_, subst}
-use mathlib.Core.Bool.{Bool, true, false, _||_}
+use mathlib.Core.Path.{_≡_, refl, sym, ap, _∙_, subst, subst⁻¹}
+use mathlib.Core.Bool.{Bool, true, false, not, _||_}
 use Prim.Native.Nat.{ℕ, _+_, _-_, _*_, _≤_, _<_}
 use native.Mathlib.Omega.{arith}
 use native.Mathlib.Nat.{one-le-mul}
@@ -9,26 +9,26 @@ use lib.Dec.{eqb}
 use lib.IntN.{ℤ, pos, negℤ, _+ℤ_, _-ℤ_, +ℤ-comm, +ℤ-negℤ-cancel, negℤ-negℤ, negℤ-+ℤ}
 use borrow.Author.Tests.{le-leb, lt-leb, eq-eqb, ne-eqb}
 use Rattle.convergents.specs.Choice.{if_then_else_}
-use Rattle.slash.specs.Answers.{Outcome, stop, done, _then_, WhenDone}
+use Rattle.slash.specs.Answers.{Outcome, stop, done, _then_, wordIn, WhenDone}
 use Rattle.slash.specs.Formats.{known}
 use Rattle.slash.specs.Signed.{signedOf}
 use Rattle.slash.specs.Words.{numberOf, numberIn, checkWord, readWord, isOverZero, writeNumber, BestWord, isNan}
-use Rattle.slash.proofs.AnswerLaws.{then-stop, then-done}
-use Rattle.slash.proofs.RoundTrip.{Says}
+use Rattle.slash.proofs.AnswerLaws.{no-stop, when-checked}
 use Rattle.slash.proofs.WordLaws.{checked-known, checked-number}
 use Rattle.slash.proofs.WriteLaws.{write-done, word-best}
 use Rattle.slash.specs.Canonical.{CanonicalWord}
-use Rattle.slash.proofs.Canonical.{read-says, written-canonical}
+use Rattle.slash.proofs.Canonical.{written-canonical}
 use Rattle.slash.specs.declared.format.Format.{Format}
 use Rattle.slash.specs.declared.number.Parts.{Parts}
 use Rattle.slash.specs.declared.number.Value.{Value}
 use Rattle.slash.specs.declared.number.Value.the-variants.{Fraction, Zero, Infinity, NotANumber}
 use Rattle.slash.specs.declared.number.Number.{Number}
 use Rattle.arithmetic.specs.Operands.{operandOf, signOf, differ, turned, Small}
-use Rattle.arithmetic.specs.Binary.{sumSize, sumSign, sumParts, sumOf, timesInfinity, productParts, productOf, dividedBy, quotientOf, exactOf, exactValue, isBinary, combined, combinedWords, binaryWord}
+use Rattle.arithmetic.specs.Binary.{sumSize, sumSign, sumParts, sumOf, timesInfinity, productParts, productOf, dividedBy, quotientOf, exactOf, exactValue, isBinary, combined, binaryWord}
+use Rattle.arithmetic.specs.Steps.{checkBinary}
 use Rattle.arithmetic.specs.declared.operand.Operand.{Operand}
 use Rattle.arithmetic.specs.declared.operand.Operand.the-variants.{Finite, Infinite}
-use Rattle.arithmetic.proofs.OperandLaws.{small-turned, read-small, checked-small}
+use Rattle.arithmetic.proofs.OperandLaws.{small-turned, checked-small}
 
 -- ---- the sum
 
@@ -247,85 +247,6 @@ over-exact code v w s t = over-either (isNan v || isNan w) NotANumber _ refl (ov
 
 -- ---- two words combined
 
--- what is written of the exact result v of two good words, whose values are x and y and whose marks are a and b
-module _ (f : Format) (code left right : ℕ) (c : checkWord f left ≡ done tt) (d : checkWord f right ≡ done tt) where
-  abbrev X : Number
-  X = numberOf f left
-
-  abbrev Y : Number
-  Y = numberOf f right
-
-  pub combine-done : (x y v : Value) (a b : Bool) (o : Outcome ℕ) → x ≡ numberIn f left .value → y ≡ numberIn f right .value
-      → v ≡ exactValue code x y → a ≡ numberIn f left .approximate → b ≡ numberIn f right .approximate
-      → (o ≡ writeNumber f (record { value = v; approximate = a || b })) × WhenDone o (λ w. BestWord f v w)
-      → (o ≡ done (combined f code X Y)) × WhenDone o (λ w. BestWord f (exactValue code (X .value) (Y .value)) w)
-  unfolding combined
-  combine-done x y v a b o xe ye ve ae be r =
-      let i : numberIn f left ≡ X = checked-number f left c in
-      let j : numberIn f right ≡ Y = checked-number f right d in
-      let e : v ≡ exactValue code (X .value) (Y .value) = rw (ve, xe, ye, i, j) refl in
-      let m : (a || b) ≡ (X .approximate || Y .approximate) = rw (ae, be, i, j) refl in
-      let z : isOverZero v ≡ false = ap isOverZero e ∙ over-exact code (X .value) (Y .value) (checked-small f left c) (checked-small f right d) in (
-        r .0 ∙ sym (write-done f (record { value = v; approximate = a || b }) (checked-known f left c) z) ∙ rw (e, m) refl,
-        subst (λ (u : Value). WhenDone o (λ w. BestWord f u w)) e (r .1),
-      )
-
-module _ (f : Format) (code left right : ℕ) (h : known f ≡ true) where
-  pub combine-left : {n p : ℕ} → stop n p ≡ readWord f left → stop n p ≡ combinedWords f code left right
-  unfolding combinedWords
-  combine-left e = then-stop _ e
-
-  module _ (x : Number) (xe : done x ≡ readWord f left) where
-    pub combine-right : {n p : ℕ} → stop n p ≡ readWord f right → stop n p ≡ combinedWords f code left right
-    unfolding combinedWords
-    combine-right e = then-done _ xe (then-stop _ e)
-
-    pub combine-both : (y : Number) → done y ≡ readWord f right → (o : Outcome ℕ)
-        → (o ≡ done (combined f code x y)) × WhenDone o (λ w. BestWord f (exactValue code (x .value) (y .value)) w)
-        → (o ≡ combinedWords f code left right) × WhenDone o (λ w. BestWord f (exactValue code (numberOf f left .value) (numberOf f right .value)) w)
-    unfolding combinedWords
-    combine-both y ye o r =
-        let a : x ≡ numberOf f left = sym (read-says f h left x (sym xe) .number) in
-        let b : y ≡ numberOf f right = sym (read-says f h right y (sym ye) .number) in (
-          then-done _ xe (then-done _ ye (r .0)),
-          subst (λ (z : Number). WhenDone o (λ w. BestWord f (exactValue code (z .value) (numberOf f right .value)) w)) a
-              (subst (λ (z : Number). WhenDone o (λ w. BestWord f (exactValue code (x .value) (z .value)) w)) b (r .1)),
-        )
-
-  -- the answers of `binary`
-  pub binary-done : isBinary code ≡ true → {o : Outcome ℕ} → o ≡ combinedWords f code left right → o ≡ binaryWord f code left right
-  unfolding binaryWord
-  binary-done b e = e ∙ rw (h, b) refl
-
-  pub binary-code : isBinary code ≡ false → stop 2 0 ≡ binaryWord f code left right
-  unfolding binaryWord
-  binary-code b = rw (h, b) refl
-
-pub binary-unknown : (f : Format) (code left right : ℕ) → known f ≡ false → stop 1 0 ≡ binaryWord f code left right
-unfolding binaryWord
-binary-unknown f code left right h = rw h refl
-
--- what holds of each word that two good words are combined to holds of what `binary` makes
-module _ (f : Format) (code left right : ℕ) (P : ℕ → Type 0)
-    (good : (x y : Number) → known f ≡ true → readWord f left ≡ done x → readWord f right ≡ done y → P (combined f code x y)) where
-  of-words : (x y : Number) → done x ≡ readWord f left → done y ≡ readWord f right → done (combined f code x y) ≡ combinedWords f code left right
-  unfolding combinedWords
-  of-words x y xe ye = then-done _ xe (then-done _ ye refl)
-
-  when-binary : WhenDone (binaryWord f code left right) P
-  when-binary = go (known f) refl (isBinary code) refl (readWord f left) refl (readWord f right) refl
-    where
-      here : (o : Outcome ℕ) → o ≡ binaryWord f code left right → WhenDone o P → WhenDone (binaryWord f code left right) P
-      here o e b = subst (λ (p : Outcome ℕ). WhenDone p P) e b
-
-      go : (k : Bool) → known f ≡ k → (b : Bool) → isBinary code ≡ b → (o : Outcome Number) → readWord f left ≡ o → (p : Outcome Number) → readWord f right ≡ p
-          → WhenDone (binaryWord f code left right) P
-      go false h b i o oe p pe = here _ (binary-unknown f code left right h) tt
-      go true h false i o oe p pe = here _ (binary-code f code left right h i) tt
-      go true h true i (stop n q) oe p pe = here _ (binary-done f code left right h i (combine-left f code left right h (sym oe))) tt
-      go true h true i (done x) oe (stop n q) pe = here _ (binary-done f code left right h i (combine-right f code left right h x (sym oe) (sym pe))) tt
-      go true h true i (done x) oe (done y) pe = here _ (binary-done f code left right h i (of-words x y (sym oe) (sym pe))) (good x y h oe pe)
-
 combined-best : (f : Format) (code : ℕ) (x y : Number) → known f ≡ true → Small (operandOf (x .value)) → Small (operandOf (y .value))
     → BestWord f (exactValue code (x .value) (y .value)) (combined f code x y)
 unfolding combined
@@ -339,20 +260,83 @@ combined-canonical f code x y h s t =
     written-canonical f z _ (sym (write-done f z h (over-exact code (x .value) (y .value) s t)))
 
 module _ (f : Format) (code left right : ℕ) where
-  abbrev BestHere : ℕ → Type 0
-  BestHere w = BestWord f (exactValue code (numberOf f left .value) (numberOf f right .value)) w
+  abbrev X : Number
+  X = numberOf f left
+
+  abbrev Y : Number
+  Y = numberOf f right
+
+  abbrev Good : Type 0
+  Good = (checkWord f left ≡ done tt) × (checkWord f right ≡ done tt)
+
+  -- a call's stops first, and then its word
+  pub binary-checked : (checkBinary f code left right then λ _. done (combined f code X Y)) ≡ binaryWord f code left right
+  unfolding checkBinary binaryWord readWord
+  binary-checked = go (known f) (isBinary code) (checkWord f left) (checkWord f right)
+    where
+      go : (k b : Bool) (o p : Outcome (Unit {0})) → ((if k then if not b then stop 2 0 else (o then λ _. p) else stop 1 0) then λ _. done (combined f code X Y))
+          ≡ (if k then if not b then stop 2 0 else ((o then λ _. done X) then λ x. (p then λ _. done Y) then λ y. done (combined f code x y)) else stop 1 0)
+      go false b o p = refl
+      go true false o p = refl
+      go true true (stop n i) p = refl
+      go true true (done u) (stop n i) = refl
+      go true true (done u) (done v) = refl
+
+  pub binary-good : done tt ≡ checkBinary f code left right → Good
+  unfolding checkBinary
+  binary-good e = go (known f) (isBinary code) (checkWord f left) refl e
+    where
+      go : (k b : Bool) (o : Outcome (Unit {0})) → checkWord f left ≡ o → done tt ≡ (if k then if not b then stop 2 0 else (o then λ _. checkWord f right) else stop 1 0) → Good
+      go false b o i h = absurd (no-stop (sym h))
+      go true false o i h = absurd (no-stop (sym h))
+      go true true (stop n p) i h = absurd (no-stop (sym h))
+      go true true (done u) i h = (i, sym h)
+
+  pub check-format : known f ≡ false → stop 1 0 ≡ checkBinary f code left right
+  unfolding checkBinary
+  check-format h = rw h refl
+
+  module _ (h : known f ≡ true) where
+    pub check-code : isBinary code ≡ false → stop 2 0 ≡ checkBinary f code left right
+    unfolding checkBinary
+    check-code i = rw (h, i) refl
+
+    pub check-words : isBinary code ≡ true → (checkWord f left then λ _. checkWord f right) ≡ checkBinary f code left right
+    unfolding checkBinary
+    check-words i = rw (h, i) refl
+
+  abbrev pub BestHere : ℕ → Type 0
+  BestHere w = BestWord f (exactValue code (X .value) (Y .value)) w
+
+  module _ (good : Good) where
+    best-made : BestHere (combined f code X Y)
+    best-made = combined-best f code X Y (checked-known f left (good .0)) (checked-small f left (good .0)) (checked-small f right (good .1))
+
+    -- what is written of the exact result v of two good words, whose values are x and y and whose marks are a and b
+    pub good-combined : (x y v : Value) (a b : Bool) (o : Outcome ℕ) (r : ℕ) → x ≡ numberIn f left .value → y ≡ numberIn f right .value
+        → v ≡ exactValue code x y → a ≡ numberIn f left .approximate → b ≡ numberIn f right .approximate
+        → o ≡ writeNumber f (record { value = v; approximate = a || b }) → r ≡ wordIn o → (r ≡ combined f code X Y) × BestHere r
+    unfolding combined wordIn
+    good-combined x y v a b o r xe ye ve ae be oe re =
+        let i : numberIn f left ≡ X = checked-number f left (good .0) in
+        let j : numberIn f right ≡ Y = checked-number f right (good .1) in
+        let e : v ≡ exactValue code (X .value) (Y .value) = rw (ve, xe, ye, i, j) refl in
+        let m : (a || b) ≡ (X .approximate || Y .approximate) = rw (ae, be, i, j) refl in
+        let z : isOverZero v ≡ false = ap isOverZero e ∙ over-exact code (X .value) (Y .value) (checked-small f left (good .0)) (checked-small f right (good .1)) in
+        let w : r ≡ combined f code X Y = re ∙ ap wordIn (oe ∙ sym (write-done f (record { value = v; approximate = a || b }) (checked-known f left (good .0)) z)) ∙ rw (e, m) refl in
+        (w, subst⁻¹ BestHere w best-made)
+
+  -- what holds of the word that two good words are combined to holds of what `binary` makes
+  when-binary : (P : ℕ → Type 0) → (Good → P (combined f code X Y)) → WhenDone (binaryWord f code left right) P
+  when-binary P good = when-checked (checkBinary f code left right) (combined f code X Y) binary-checked P (λ e. good (binary-good e))
 
   -- Demand 3, of every word that the four operations make.
   pub binary-best : WhenDone (binaryWord f code left right) BestHere
-  binary-best = when-binary f code left right BestHere good
-    where
-      good : (x y : Number) → known f ≡ true → readWord f left ≡ done x → readWord f right ≡ done y → BestHere (combined f code x y)
-      good x y h xe ye =
-          let b = combined-best f code x y h (read-small f left x xe) (read-small f right y ye) in
-          combine-both f code left right h x (sym xe) y (sym ye) (done (combined f code x y)) (refl, b) .1
+  binary-best = when-binary BestHere best-made
 
   -- Every word that they make is canonical.
   pub binary-canonical : (w : ℕ) → binaryWord f code left right ≡ done w → CanonicalWord f w
   binary-canonical w e =
       subst (λ (o : Outcome ℕ). WhenDone o (λ v. CanonicalWord f v)) e
-      (when-binary f code left right (λ v. CanonicalWord f v) (λ x y h xe ye. combined-canonical f code x y h (read-small f left x xe) (read-small f right y ye)))
+      (when-binary (λ v. CanonicalWord f v)
+      (λ good. combined-canonical f code X Y (checked-known f left (good .0)) (checked-small f left (good .0)) (checked-small f right (good .1))))

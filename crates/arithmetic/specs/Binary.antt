@@ -97,16 +97,11 @@ isBinary code = leb 1 code && leb code 4
 unfoldable pub combined : Format → ℕ → Number → Number → ℕ
 combined f code x y = wordFor f (x .approximate || y .approximate) (exactValue code (x .value) (y .value))
 
--- Of two words: the left one's stop, 4 or 5, before the right one's.
-unfoldable pub combinedWords : Format → (code left right : ℕ) → Outcome ℕ
-combinedWords f code left right =
-    readWord f left then λ x.
-    readWord f right then λ y.
-    done (combined f code x y)
-
--- Stop 1 for the format, 2 for the code, then the words'.
+-- Stop 1 for the format, 2 for the code, then the words': the left one's, 4 or 5, before the right one's.
 unfoldable pub binaryWord : Format → (code left right : ℕ) → Outcome ℕ
 binaryWord f code left right =
     whenKnown f (
     if not (isBinary code) then stop 2 0 else
-    combinedWords f code left right)
+    readWord f left then λ x.
+    readWord f right then λ y.
+    done (combined f code x y))

@@ -6,7 +6,9 @@ mod operations;
 mod ordering;
 
 pub use conversion::convert;
+pub use conversion::converted;
 pub use operations::binary;
+pub use operations::combined;
 pub use operations::is_binary;
 pub use ordering::Comparison;
 pub use ordering::Order;

@@ -2,11 +2,11 @@
 ghost use mathlib.Core.Path.{_≡_};
 ghost use mathlib.Core.Bool.{true};
 ghost use Prim.Native.Nat.{_<_, _^_};
-ghost use Rattle.slash.specs.Answers.{outcome, done, WhenDone};
-ghost use Rattle.slash.specs.Formats.{known};
+ghost use Rattle.slash.specs.Answers.{outcome, checkOutcome, done, wordIn, WhenDone};
 ghost use Rattle.slash.specs.Words.{BestWord, numberOf, checkWord};
 ghost use Rattle.arithmetic.specs.Operands.{Small, operandOf, turned};
-ghost use Rattle.arithmetic.specs.Binary.{sumSize, sumSign, sumParts, sumOf, timesInfinity, productParts, productOf, dividedBy, quotientOf, exactOf, exactValue, isBinary, combined, combinedWords, binaryWord};
+ghost use Rattle.arithmetic.specs.Binary.{sumSize, sumSign, sumParts, sumOf, timesInfinity, productParts, productOf, dividedBy, quotientOf, exactOf, exactValue, isBinary, combined, binaryWord};
+ghost use Rattle.arithmetic.specs.Steps.{checkBinary};
 use crate::operand::Operand;
 use crate::operand::as_operand;
 use crate::operand::sign;
@@ -206,37 +206,40 @@ pub fn is_binary(code: u64) -> bool
     (ADD <= code) & (code <= DIVIDE)
 }
 
-// What two good words say, combined and written.
-fn combine(f: Format, code: u64, left: u64, right: u64) -> Answer
-    requires { ⌜ (checkWord f left ≡ done tt) × (checkWord f right ≡ done tt) ⌝ }
-    ensures written { λ r. ⌜ outcome r ≡ done (combined f code (numberOf f left) (numberOf f right)) ⌝ }
-    ensures best { λ r. ⌜ WhenDone (outcome r) (λ w. BestWord f (exactValue code (numberOf f left .value) (numberOf f right .value)) w) ⌝ }
+// What two good words say, combined and written, in numbers that stay in registers.
+fn combined_word(kind: u64, k: u64, code: u64, left: u64, right: u64) -> u64
+    requires { ⌜ (checkWord (record { kind = kind; k = k }) left ≡ done tt) × (checkWord (record { kind = kind; k = k }) right ≡ done tt) ⌝ }
+    ensures written { λ r. ⌜ r ≡ combined (record { kind = kind; k = k }) code (numberOf (record { kind = kind; k = k }) left) (numberOf (record { kind = kind; k = k }) right) ⌝ }
+    ensures best { λ r. ⌜ BestWord (record { kind = kind; k = k }) (exactValue code (numberOf (record { kind = kind; k = k }) left .value) (numberOf (record { kind = kind; k = k }) right .value)) r ⌝ }
 {
+    let f = Format { kind: kind, k: k };
     let v = slash::value(f, left);
     let w = slash::value(f, right);
     let exact = exact_value(code, v, w);
     let marked = slash::is_approximate(f, left) | slash::is_approximate(f, right);
-    slash::write(
+    let written = slash::write(
         f,
         Number {
             value: exact,
             approximate: marked,
         },
-    )
+    );
+    written.word()
 }
 
-// The same of two words: the left one's stop before the right one's.
-fn combine_words(f: Format, code: u64, left: u64, right: u64) -> Answer
-    requires { ⌜ known f ≡ true ⌝ }
-    ensures written { λ r. ⌜ outcome r ≡ combinedWords f code left right ⌝ }
-    ensures best { λ r. ⌜ WhenDone (outcome r) (λ w. BestWord f (exactValue code (numberOf f left .value) (numberOf f right .value)) w) ⌝ }
+// What stops a call: its format, its code, the left word or the right one.
+fn stops(f: Format, code: u64, left: u64, right: u64) -> Checked
+    ensures { λ r. ⌜ checkOutcome r ≡ checkBinary f code left right ⌝ }
 {
+    if !f.is_known() {
+        return Checked::Stopped(Stop::plain(Stop::FORMAT));
+    }
+    if !is_binary(code) {
+        return Checked::Stopped(Stop::plain(Stop::CODE));
+    }
     match slash::check(f, left) {
-        Checked::Stopped(s) => Answer::Stopped(s),
-        Checked::Good => match slash::check(f, right) {
-            Checked::Stopped(s) => Answer::Stopped(s),
-            Checked::Good => combine(f, code, left, right),
-        },
+        Checked::Stopped(s) => Checked::Stopped(s),
+        Checked::Good => slash::check(f, right),
     }
 }
 
@@ -245,11 +248,19 @@ pub fn binary(f: Format, code: u64, left: u64, right: u64) -> Answer
     ensures written { λ r. ⌜ outcome r ≡ binaryWord f code left right ⌝ }
     ensures best { λ r. ⌜ WhenDone (outcome r) (λ w. BestWord f (exactValue code (numberOf f left .value) (numberOf f right .value)) w) ⌝ }
 {
-    if !f.is_known() {
-        return Answer::Stopped(Stop::plain(Stop::FORMAT));
+    match stops(f, code, left, right) {
+        Checked::Stopped(s) => Answer::Stopped(s),
+        Checked::Good => Answer::Done(combined_word(f.kind, f.k, code, left, right)),
     }
-    if !is_binary(code) {
-        return Answer::Stopped(Stop::plain(Stop::CODE));
+}
+
+// The word of `binary` by itself, for a caller that has checked its words; 0 where it stops.
+pub fn combined(f: Format, code: u64, left: u64, right: u64) -> u64
+    ensures written { λ r. ⌜ r ≡ wordIn (binaryWord f code left right) ⌝ }
+    ensures best { λ r. ⌜ WhenDone (binaryWord f code left right) (λ _. BestWord f (exactValue code (numberOf f left .value) (numberOf f right .value)) r) ⌝ }
+{
+    match stops(f, code, left, right) {
+        Checked::Stopped(_) => 0,
+        Checked::Good => combined_word(f.kind, f.k, code, left, right),
     }
-    combine_words(f, code, left, right)
 }

@@ -8,6 +8,7 @@ use crate::operand::Operand;
 use crate::operand::as_operand;
 use slash::Checked;
 use slash::Format;
+use slash::Parts;
 use slash::Stop;
 use slash::Value;
 
@@ -59,18 +60,26 @@ fn outside_all(s: bool) -> Order
     if s { Order::Below } else { Order::Above }
 }
 
+// Finite values by the products of their parts across.
+fn compare_parts(p: Parts, q: Parts) -> Order
+    requires { ⌜ Small (Operand.Finite p) × Small (Operand.Finite q) ⌝ }
+    ensures { λ r. ⌜ r ≡ compareOf (Operand.Finite p) (Operand.Finite q) ⌝ }
+{
+    signed_order(
+        p.negative,
+        q.negative,
+        p.numerator * q.denominator,
+        q.numerator * p.denominator,
+    )
+}
+
 fn compare_operands(x: Operand, y: Operand) -> Order
     requires { ⌜ Small x × Small y ⌝ }
     ensures { λ r. ⌜ r ≡ compareOf x y ⌝ }
 {
     match x {
         Operand::Finite(p) => match y {
-            Operand::Finite(q) => signed_order(
-                p.negative,
-                q.negative,
-                p.numerator * q.denominator,
-                q.numerator * p.denominator,
-            ),
+            Operand::Finite(q) => compare_parts(p, q),
             Operand::Infinite(t) => outside_all(!t),
         },
         Operand::Infinite(s) => match y {
@@ -81,7 +90,7 @@ fn compare_operands(x: Operand, y: Operand) -> Order
 }
 
 // Unordered if either is not-a-number.
-fn compare_values(v: Value, w: Value) -> Order
+fn compare_any(v: Value, w: Value) -> Order
     requires { ⌜ Small (operandOf v) × Small (operandOf w) ⌝ }
     ensures { λ r. ⌜ r ≡ compareValues v w ⌝ }
 {
@@ -89,6 +98,20 @@ fn compare_values(v: Value, w: Value) -> Order
         return Order::Unordered;
     }
     compare_operands(as_operand(v), as_operand(w))
+}
+
+// Two fractions, which most words are, go the short way.
+fn compare_values(v: Value, w: Value) -> Order
+    requires { ⌜ Small (operandOf v) × Small (operandOf w) ⌝ }
+    ensures { λ r. ⌜ r ≡ compareValues v w ⌝ }
+{
+    let Value::Fraction(p) = v else {
+        return compare_any(v, w);
+    };
+    let Value::Fraction(q) = w else {
+        return compare_any(v, w);
+    };
+    compare_parts(p, q)
 }
 
 pub fn compare(f: Format, left: u64, right: u64) -> Comparison

@@ -1,9 +1,11 @@
 -- Laws of outcomes, and of functions that go by cases. Assumes nothing.
-use mathlib.Core.Path.{_≡_, sym, ap, ap₂, _∙_}
+use mathlib.Core.Path.{_≡_, refl, sym, ap, ap₂, _∙_, subst}
 use Prim.Native.Nat.{ℕ}
 use native.Mathlib.Omega.{arith}
-use Rattle.slash.specs.Answers.{Outcome, stop, done, _then_}
+use Rattle.slash.specs.Answers.{Outcome, stop, done, _then_, wordIn, WhenDone, checkOutcome}
 use Rattle.slash.specs.declared.answer.Stop.{Stop}
+use Rattle.slash.specs.declared.reading.Checked.{Checked}
+use Rattle.slash.specs.declared.reading.Checked.the-variants as Checked
 
 -- a stop made by `Stop::plain`
 pub plain-stop : {A : Type 0} (s : Stop) (n : ℕ) {o : Outcome A} → s ≡ record { number = n; place = 0 } → stop n 0 ≡ o → stop (s .number) (s .place) ≡ o
@@ -11,6 +13,9 @@ plain-stop s n e h = ap (λ (t : Stop). stop (t .number) (t .place)) e ∙ h
 
 pub done-inj : {A : Type 0} {x y : A} → done x ≡ done y → x ≡ y
 done-inj e = cc
+
+pub no-stop : {A : Type 0} {n p : ℕ} {x : A} → stop n p ≡ done x → ⊥
+no-stop e = let z : _≡_ {A = ℕ} 0 1 = cc in omega arith
 
 -- what a step that stopped, or is done, comes to
 module _ {A B : Type 0} {o : Outcome A} (next : A → Outcome B) where
@@ -20,8 +25,40 @@ module _ {A B : Type 0} {o : Outcome A} (next : A → Outcome B) where
   pub then-done : {x : A} {r : Outcome B} → done x ≡ o → r ≡ next x → r ≡ (o then next)
   then-done {x} {r} e h = h ∙ ap (λ (q : Outcome A). q then next) e
 
-pub no-stop : {A : Type 0} {n p : ℕ} {x : A} → stop n p ≡ done x → ⊥
-no-stop e = let z : _≡_ {A = ℕ} 0 1 = cc in omega arith
+-- what a check answered, by its case
+module _ {a : Checked} {o : Outcome (Unit {0})} (h : checkOutcome a ≡ o) where
+  pub told-stop : {s : Stop} → a ≡ Checked.Stopped s → stop (s .number) (s .place) ≡ o
+  told-stop e = sym (ap checkOutcome e) ∙ h
+
+  pub told-good : a ≡ Checked.Good → done tt ≡ o
+  told-good e = sym (ap checkOutcome e) ∙ h
+
+-- the word of an outcome, and what holds of it where there is one
+module _ (P : ℕ → Type 0) where
+  pub stopped-word : {n p : ℕ} (o : Outcome ℕ) → stop n p ≡ o → (0 ≡ wordIn o) × WhenDone o (λ _. P 0)
+  unfolding wordIn
+  stopped-word (stop n p) e = (refl, tt)
+  stopped-word (done v) e = absurd (no-stop e)
+
+  pub done-word : {v : ℕ} (o : Outcome ℕ) → done v ≡ o → P v → (v ≡ wordIn o) × WhenDone o (λ _. P v)
+  unfolding wordIn
+  done-word (stop n p) e h = absurd (no-stop (sym e))
+  done-word (done v) e h = (done-inj e, h)
+
+-- a call o that is a check first, and then makes v
+module _ (c : Outcome (Unit {0})) (v : ℕ) {o : Outcome ℕ} (e : (c then λ _. done v) ≡ o) where
+  pub checked-stop : {n p : ℕ} → stop n p ≡ c → stop n p ≡ o
+  checked-stop h = then-stop (λ _. done v) h ∙ e
+
+  pub checked-made : {r : ℕ} → done tt ≡ c → r ≡ v → done r ≡ o
+  checked-made h re = then-done (λ _. done v) h (ap done re) ∙ e
+
+  pub when-checked : (P : ℕ → Type 0) → (done tt ≡ c → P v) → WhenDone o P
+  when-checked P good = subst (λ (q : Outcome ℕ). WhenDone q P) e (go c good)
+    where
+      go : (d : Outcome (Unit {0})) → (done tt ≡ d → P v) → WhenDone (d then λ _. done v) P
+      go (stop n p) g = tt
+      go (done u) g = g refl
 
 -- what a function F comes to at a value that the code knows by its case
 pub at-one : {A B : Type 0} (F : A → B) {x u : A} {r : B} → x ≡ u → r ≡ F u → r ≡ F x

@@ -31,6 +31,11 @@ abbrev pub WhenDone : {A : Type 0} → Outcome A → (A → Type 0) → Type 0
 WhenDone (stop number place) P = Unit {0}
 WhenDone (done x) P = P x
 
+-- The word that a call makes; 0 where it stops.
+unfoldable pub wordIn : Outcome ℕ → ℕ
+wordIn (stop number place) = 0
+wordIn (done w) = w
+
 -- The outcome that each answer stands for.
 abbrev pub outcome : Answer → Outcome ℕ
 outcome (Answer.Done n) = done n

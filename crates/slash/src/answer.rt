@@ -1,5 +1,6 @@
 // How every call of the library answers.
 ghost use mathlib.Core.Path.{_≡_};
+ghost use Rattle.slash.specs.Answers.{outcome, wordIn};
 
 // A stop: its number, and its place (an index from 0, a line from 1, else 0).
 pub struct Stop {
@@ -11,6 +12,18 @@ pub struct Stop {
 pub enum Answer {
     Done(u64),
     Stopped(Stop),
+}
+
+impl Answer {
+    // The number that the call made; 0 where it stopped.
+    pub fn word(self) -> u64
+        ensures { λ r. ⌜ r ≡ wordIn (outcome self) ⌝ }
+    {
+        match self {
+            Answer::Done(n) => n,
+            Answer::Stopped(_) => 0,
+        }
+    }
 }
 
 impl Stop {

@@ -233,7 +233,7 @@ unary-sign f code w v x l r n e = subst (λ (o : Outcome ℕ). WhenDone o Says) 
     Says : ℕ → Type 0
     Says u = readWord f u ≡ done (record { value = withSign (newSign code (signIn (x .value))) (x .value); approximate = x .approximate })
 
-    good : (y : Number) → known f ≡ true → readWord f w ≡ done y → Says (unaryResult f code w y)
-    good y h q =
-        let same : y ≡ x = done-inj (sym q ∙ r) in
+    good : checkWord f w ≡ done tt → Says (unaryResult f code w (numberOf f w))
+    good c =
+        let same : numberOf f w ≡ x = done-inj (sym (checked-read f w c) ∙ r) in
         rw (same, le-leb code 2 l, n) (sign-touched f code w x r n)

@@ -20,20 +20,17 @@ use Rattle.convergents.specs.Rounding.{Limit, round}
 use Rattle.convergents.proofs.Optimal.{held-is}
 use Rattle.convergents.proofs.Theorem.{round-exact}
 use Rattle.convergents.proofs.Loop.{differs-not}
-use Rattle.slash.specs.Answers.{Outcome, stop, done, outcome, WhenDone}
+use Rattle.slash.specs.Answers.{Outcome, stop, done, _then_, outcome, wordIn, WhenDone}
 use Rattle.slash.specs.Bits.{bit, bitOf, bitCount}
 use Rattle.slash.specs.Formats.{known, ofKnown, widthOf, holds}
 use Rattle.slash.specs.Words.{numberOf, numberIn, checkWord, readWord, wordFor, isNan, isOverZero, writeNumber, BestWord}
 use Rattle.slash.specs.Canonical.{HeldParts, HeldValue, CanonicalWord}
-use Rattle.slash.proofs.AnswerLaws.{done-inj, then-stop, then-done}
+use Rattle.slash.proofs.AnswerLaws.{no-stop, when-checked}
 use Rattle.slash.proofs.BitLaws.{one-shl, pow-next, bit-true, bit-false}
 use Rattle.slash.proofs.FormatLaws.{of-known, known-k, slash-bits-pos, width-fixed, width-floating, width-range, format-limit, small-parts, fixed-holds, holds-both, holds-floating, floating-holds}
 use Rattle.slash.proofs.WordLaws.{checked-known, checked-number, checked-read}
 use Rattle.slash.proofs.WriteLaws.{write-done, word-best}
-use Rattle.slash.proofs.Canonical.{read-known, read-held, read-says, written-canonical}
-use Rattle.slash.specs.declared.answer.Stop.{Stop}
-use Rattle.slash.specs.declared.answer.Answer.{Answer}
-use Rattle.slash.specs.declared.answer.Answer.the-variants as Answer
+use Rattle.slash.proofs.Canonical.{read-known, read-held, written-canonical}
 use Rattle.slash.specs.declared.format.Format.{Format}
 use Rattle.slash.specs.declared.number.Parts.{Parts}
 use Rattle.slash.specs.declared.number.Value.{Value}
@@ -41,7 +38,7 @@ use Rattle.slash.specs.declared.number.Value.the-variants.{Fraction, Zero, Infi
 use Rattle.slash.specs.declared.number.Number.{Number}
 use Rattle.slash.specs.Signed.{signedOf}
 use Rattle.unary.specs.Floor.{floorBy, ceilingBy, aboveFloor}
-use Rattle.unary.specs.Steps.{SmallParts, SmallValue}
+use Rattle.unary.specs.Steps.{SmallParts, SmallValue, checkUnary}
 use Rattle.unary.specs.Unary.{signBit, withHighest, newSign, signTouched, whole, signedNumerator, reciprocalParts, floorParts, ceilingParts, modParts, exactParts, exactZero, exactInfinity, exactUnary, ExactIn, isUnary, unaryResult, unaryWord}
 use Rattle.unary.proofs.SignedLaws.{read, same, small-fits, of-read, signed-size, test-is, floor-size, ceiling-size, above-lt, above-le}
 
@@ -70,30 +67,22 @@ module _ (h w : ℕ) (l : h < 64) where
   not-set s e = rw e (omega (arith, rest-is))
 
 -- the width that a format tells
-module _ (f : Format) (known-it : known f ≡ true) (a : Answer) (told : outcome a ≡ ofKnown f (widthOf f)) where
-  says-done : outcome a ≡ done (widthOf f)
-  says-done = told ∙ sym (of-known f (widthOf f) known-it)
-
-  pub width-told : (n : ℕ) → a ≡ Answer.Done n → n ≡ widthOf f
-  width-told n e = done-inj (sym (ap outcome e) ∙ says-done)
-
-  pub width-never-stops : {X : Type 0} (s : Stop) → a ≡ Answer.Stopped s → X
-  width-never-stops s e =
-      let g : stop (s .number) (s .place) ≡ done (widthOf f) = sym (ap outcome e) ∙ says-done in
-      let z : _≡_ {A = ℕ} 0 1 = cc in
-      absurd (omega arith)
+module _ (f : Format) (known-it : known f ≡ true) (o : Outcome ℕ) (told : o ≡ ofKnown f (widthOf f)) where
+  pub width-word : (n : ℕ) → n ≡ wordIn o → n ≡ widthOf f
+  unfolding wordIn
+  width-word n e = e ∙ ap wordIn (told ∙ sym (of-known f (widthOf f) known-it))
 
   -- a word has from 4 to 64 bits
-  pub width-some : (n : ℕ) → a ≡ Answer.Done n → (4 ≤ n) × (n ≤ 64)
+  pub width-some : (n : ℕ) → n ≡ wordIn o → (4 ≤ n) × (n ≤ 64)
   width-some n e = go (ℕ-discrete (f .kind) 1)
     where
       go : Dec (f .kind ≡ 1) → (4 ≤ n) × (n ≤ 64)
-      go (yes k) = omega (arith, width-told n e, width-range f known-it, width-fixed f k, known-k f known-it)
-      go (no k) = omega (arith, width-told n e, width-range f known-it, width-floating f k _ refl, known-k f known-it, slash-bits-pos (f .k) (known-k f known-it .0))
+      go (yes k) = omega (arith, width-word n e, width-range f known-it, width-fixed f k, known-k f known-it)
+      go (no k) = omega (arith, width-word n e, width-range f known-it, width-floating f k _ refl, known-k f known-it, slash-bits-pos (f .k) (known-k f known-it .0))
 
-pub touch-done : (f : Format) (place code w r : ℕ) → r ≡ withHighest place (newSign code (bit place w)) w → place ≡ signBit f → done r ≡ done (signTouched f code w)
+pub touch-done : (f : Format) (place code w r : ℕ) → r ≡ withHighest place (newSign code (bit place w)) w → place ≡ signBit f → r ≡ signTouched f code w
 unfolding signTouched
-touch-done f place code w r g e = ap done (g ∙ ap (λ (m : ℕ). withHighest m (newSign code (bit m w)) w) e)
+touch-done f place code w r g e = g ∙ ap (λ (m : ℕ). withHighest m (newSign code (bit m w)) w) e
 
 -- ---- whole numbers
 
@@ -235,26 +224,6 @@ over-exact f code NotANumber q = refl
 -- ---- what a code makes of a word
 
 module _ (f : Format) (h : known f ≡ true) (code w : ℕ) (x : Number) where
-  result-touched : (o : Outcome ℕ) → (leb code 2 && not (isNan (x .value))) ≡ true → o ≡ done (signTouched f code w)
-      → (o ≡ done (unaryResult f code w x)) × (3 ≤ code → WhenDone o (λ v. BestWord f (exactUnary code (x .value)) v))
-  unfolding unaryResult
-  result-touched o t e = (
-    e ∙ rw t refl,
-    λ l. let g : leb code 2 ≡ false = lt-leb _ _ l in let z : _≡_ {A = ℕ} 0 1 = cc in absurd (omega arith),
-  )
-
-  result-written : HeldValue f (x .value) → (o : Outcome ℕ) (v : Value) → (leb code 2 && not (isNan (x .value))) ≡ false → v ≡ exactUnary code (x .value)
-      → (o ≡ writeNumber f (record { value = v; approximate = x .approximate })) × WhenDone o (λ u. BestWord f v u)
-      → (o ≡ done (unaryResult f code w x)) × (3 ≤ code → WhenDone o (λ u. BestWord f (exactUnary code (x .value)) u))
-  unfolding unaryResult
-  result-written q o v t e r =
-      let y : Value = exactUnary code (x .value) in
-      let m : Bool = x .approximate in (
-        r .0 ∙ ap (λ (u : Value). writeNumber f (record { value = u; approximate = m })) e
-            ∙ sym (write-done f (record { value = y; approximate = m }) h (over-exact f code (x .value) q)) ∙ rw t refl,
-        λ l. subst (λ (u : Value). WhenDone o (λ z. BestWord f u z)) e (r .1),
-      )
-
   pub result-best : HeldValue f (x .value) → 3 ≤ code → BestWord f (exactUnary code (x .value)) (unaryResult f code w x)
   unfolding unaryResult
   result-best q l = rw (lt-leb code 2 l) (word-best f h (x .approximate) (exactUnary code (x .value)) (over-exact f code (x .value) q))
@@ -282,80 +251,81 @@ module _ (f : Format) (code w : ℕ) (c : checkWord f w ≡ done tt) (v : Value)
   test : {t : Bool} → b ≡ t → (leb code 2 && not (isNan (X .value))) ≡ t
   test e = ap (λ (u : Value). leb code 2 && not (isNan u)) (sym value-is) ∙ sym be ∙ e
 
-  abbrev Made : Outcome ℕ → Type 0
-  Made o = (o ≡ done (unaryResult f code w X)) × (3 ≤ code → WhenDone o (λ u. BestWord f (exactUnary code (X .value)) u))
+  abbrev Made : ℕ → Type 0
+  Made r = (r ≡ unaryResult f code w X) × (3 ≤ code → BestWord f (exactUnary code (X .value)) r)
 
-  pub good-touched : (o : Outcome ℕ) → b ≡ true → o ≡ done (signTouched f code w) → Made o
-  good-touched o t e = result-touched f (checked-known f w c) code w X o (test t) e
+  made : (r : ℕ) → r ≡ unaryResult f code w X → Made r
+  made r e = (e, λ l. subst⁻¹ (λ (u : ℕ). BestWord f (exactUnary code (X .value)) u) e (result-best f (checked-known f w c) code w X held l))
 
-  pub good-written : (o : Outcome ℕ) (y : Value) (a : Bool) → b ≡ false → y ≡ exactUnary code v → a ≡ numberIn f w .approximate
-      → (o ≡ writeNumber f (record { value = y; approximate = a })) × WhenDone o (λ u. BestWord f y u) → Made o
-  good-written o y a t e ae r =
-      let g : a ≡ X .approximate = ae ∙ ap (λ (x : Number). x .approximate) (checked-number f w c) in
-      result-written f (checked-known f w c) code w X held o y (test t) (e ∙ ap (exactUnary code) value-is)
-      (r .0 ∙ ap (λ (m : Bool). writeNumber f (record { value = y; approximate = m })) g, r .1)
+  pub good-touched : (r : ℕ) → b ≡ true → r ≡ signTouched f code w → Made r
+  unfolding unaryResult
+  good-touched r t e = made r (e ∙ rw (test t) refl)
 
+  pub good-written : (o : Outcome ℕ) (y : Value) (a : Bool) (r : ℕ) → b ≡ false → y ≡ exactUnary code v → a ≡ numberIn f w .approximate
+      → o ≡ writeNumber f (record { value = y; approximate = a }) → r ≡ wordIn o → Made r
+  unfolding unaryResult wordIn
+  good-written o y a r t e ae oe re =
+      let ye : y ≡ exactUnary code (X .value) = e ∙ ap (exactUnary code) value-is in
+      let me : a ≡ X .approximate = ae ∙ ap (λ (x : Number). x .approximate) (checked-number f w c) in
+      let exact : Number = record { value = exactUnary code (X .value); approximate = X .approximate } in
+      let same : writeNumber f (record { value = y; approximate = a }) ≡ writeNumber f exact = rw (ye, me) refl in
+      let written : done (wordFor f (exact .approximate) (exact .value)) ≡ writeNumber f exact = write-done f exact (checked-known f w c) (over-exact f code (X .value) held) in
+      made r (re ∙ ap wordIn (oe ∙ same ∙ sym written) ∙ rw (test t) refl)
+
+-- a call's stops first, and then its word
 module _ (f : Format) (code w : ℕ) where
-  pub unary-format : known f ≡ false → stop 1 0 ≡ unaryWord f code w
-  unfolding unaryWord
-  unary-format h = rw h refl
-
-  module _ (h : known f ≡ true) where
-    pub unary-code : isUnary code ≡ false → stop 2 0 ≡ unaryWord f code w
-    unfolding unaryWord
-    unary-code i = rw (h, i) refl
-
-    module _ (i : isUnary code ≡ true) where
-      pub unary-stop : {n p : ℕ} → stop n p ≡ readWord f w → stop n p ≡ unaryWord f code w
-      unfolding unaryWord
-      unary-stop e = rw (h, i) (then-stop _ e)
-
-      pub unary-done : (x : Number) → done x ≡ readWord f w → (o : Outcome ℕ)
-          → (o ≡ done (unaryResult f code w x)) × (3 ≤ code → WhenDone o (λ v. BestWord f (exactUnary code (x .value)) v))
-          → (o ≡ unaryWord f code w) × (3 ≤ code → WhenDone o (λ v. BestWord f (exactUnary code (numberOf f w .value)) v))
-      unfolding unaryWord
-      unary-done x e o r = (
-        rw (h, i) (then-done _ e (r .0)),
-        λ l. subst (λ (y : Number). WhenDone o (λ v. BestWord f (exactUnary code (y .value)) v)) (sym (read-says f h w x (sym e) .number)) (r .1 l),
-      )
-
--- what holds of the word that a code makes of each number that is read holds of what `unary` makes
-module _ (f : Format) (code w : ℕ) (P : ℕ → Type 0) (good : (x : Number) → known f ≡ true → readWord f w ≡ done x → P (unaryResult f code w x)) where
-  of-word : (x : Number) → known f ≡ true → isUnary code ≡ true → done x ≡ readWord f w → done (unaryResult f code w x) ≡ unaryWord f code w
-  unfolding unaryWord
-  of-word x h i e = rw (h, i) (then-done _ e refl)
-
-  pub when-unary : WhenDone (unaryWord f code w) P
-  when-unary = go (known f) refl (isUnary code) refl (readWord f w) refl
+  pub unary-checked : (checkUnary f code w then λ _. done (unaryResult f code w (numberOf f w))) ≡ unaryWord f code w
+  unfolding checkUnary unaryWord readWord
+  unary-checked = go (known f) (isUnary code) (checkWord f w)
     where
-      here : (o : Outcome ℕ) → o ≡ unaryWord f code w → WhenDone o P → WhenDone (unaryWord f code w) P
-      here o e b = subst (λ (p : Outcome ℕ). WhenDone p P) e b
+      go : (k u : Bool) (o : Outcome (Unit {0})) → ((if k then if not u then stop 2 0 else o else stop 1 0) then λ _. done (unaryResult f code w (numberOf f w)))
+          ≡ (if k then if not u then stop 2 0 else ((o then λ _. done (numberOf f w)) then λ x. done (unaryResult f code w x)) else stop 1 0)
+      go false u o = refl
+      go true false o = refl
+      go true true (stop n p) = refl
+      go true true (done x) = refl
 
-      go : (k : Bool) → known f ≡ k → (b : Bool) → isUnary code ≡ b → (o : Outcome Number) → readWord f w ≡ o → WhenDone (unaryWord f code w) P
-      go false h b i o oe = here _ (unary-format f code w h) tt
-      go true h false i o oe = here _ (unary-code f code w h i) tt
-      go true h true i (stop n q) oe = here _ (unary-stop f code w h i (sym oe)) tt
-      go true h true i (done x) oe = here _ (of-word x h i (sym oe)) (good x h oe)
+  pub unary-good : done tt ≡ checkUnary f code w → checkWord f w ≡ done tt
+  unfolding checkUnary
+  unary-good e = go (known f) (isUnary code) e
+    where
+      go : (k u : Bool) → done tt ≡ (if k then if not u then stop 2 0 else checkWord f w else stop 1 0) → checkWord f w ≡ done tt
+      go false u h = absurd (no-stop (sym h))
+      go true false h = absurd (no-stop (sym h))
+      go true true h = sym h
+
+  pub check-format : known f ≡ false → stop 1 0 ≡ checkUnary f code w
+  unfolding checkUnary
+  check-format h = rw h refl
+
+  pub check-code : known f ≡ true → isUnary code ≡ false → stop 2 0 ≡ checkUnary f code w
+  unfolding checkUnary
+  check-code h i = rw (h, i) refl
+
+  pub check-word : known f ≡ true → isUnary code ≡ true → checkWord f w ≡ checkUnary f code w
+  unfolding checkUnary
+  check-word h i = rw (h, i) refl
 
 module _ (f : Format) (code w : ℕ) where
-  abbrev BestHere : ℕ → Type 0
+  -- what holds of the word that a code makes of a good word holds of what `unary` makes
+  pub when-unary : (P : ℕ → Type 0) → (checkWord f w ≡ done tt → P (unaryResult f code w (numberOf f w))) → WhenDone (unaryWord f code w) P
+  when-unary P good = when-checked (checkUnary f code w) (unaryResult f code w (numberOf f w)) (unary-checked f code w) P (λ e. good (unary-good f code w e))
+
+  held-number : checkWord f w ≡ done tt → HeldValue f (numberOf f w .value)
+  held-number c = read-held f (checked-known f w c) w (numberOf f w) (checked-read f w c)
+
+  abbrev pub BestHere : ℕ → Type 0
   BestHere v = 3 ≤ code → BestWord f (exactUnary code (numberOf f w .value)) v
 
   -- Every word that codes 3 to 7 make is the best for the exact value.
   pub unary-best : WhenDone (unaryWord f code w) BestHere
-  unary-best = when-unary f code w BestHere good
-    where
-      good : (x : Number) → known f ≡ true → readWord f w ≡ done x → BestHere (unaryResult f code w x)
-      good x h e l =
-          subst (λ (y : Number). BestWord f (exactUnary code (y .value)) (unaryResult f code w x)) (sym (read-says f h w x e .number))
-          (result-best f h code w x (read-held f h w x e) l)
+  unary-best = when-unary BestHere (λ c. result-best f (checked-known f w c) code w (numberOf f w) (held-number c))
 
   -- And it is canonical.
   pub unary-canonical : 3 ≤ code → (v : ℕ) → unaryWord f code w ≡ done v → CanonicalWord f v
-  unary-canonical l v e = subst (λ (o : Outcome ℕ). WhenDone o (λ u. CanonicalWord f u)) e (when-unary f code w (λ u. CanonicalWord f u) good)
-    where
-      good : (x : Number) → known f ≡ true → readWord f w ≡ done x → CanonicalWord f (unaryResult f code w x)
-      good x h r = result-canonical f h code w x (read-held f h w x r) l
+  unary-canonical l v e =
+      subst (λ (o : Outcome ℕ). WhenDone o (λ u. CanonicalWord f u)) e
+      (when-unary (λ u. CanonicalWord f u) (λ c. result-canonical f (checked-known f w c) code w (numberOf f w) (held-number c) l))
 
 -- ---- what always fits
 

@@ -3,12 +3,12 @@ ghost use mathlib.Core.Path.{_≡_};
 ghost use mathlib.Core.Bool.{true};
 ghost use Prim.Native.Nat.{_≤_, _<_, _^_};
 ghost use lib.IntN.{natAbs};
-ghost use Rattle.slash.specs.Answers.{outcome, done, WhenDone};
+ghost use Rattle.slash.specs.Answers.{outcome, checkOutcome, done, wordIn, WhenDone};
 ghost use Rattle.slash.specs.Bits.{bit};
 ghost use Rattle.slash.specs.Canonical.{HeldValue};
 ghost use Rattle.slash.specs.Formats.{known};
 ghost use Rattle.slash.specs.Words.{BestWord, numberOf, checkWord};
-ghost use Rattle.unary.specs.Steps.{SmallParts, SmallValue};
+ghost use Rattle.unary.specs.Steps.{SmallParts, SmallValue, checkUnary};
 ghost use Rattle.unary.specs.Unary.{withHighest, newSign, signTouched, whole, floorParts, ceilingParts, modParts, exactParts, exactZero, exactInfinity, exactUnary, isUnary, unaryResult, unaryWord};
 use crate::signed;
 use slash::Answer;
@@ -53,14 +53,12 @@ fn touch_highest(highest: u64, code: u64, w: u64) -> u64
 }
 
 // Code 1 turns the sign of a word, code 2 takes it off.
-fn touch_sign(f: Format, code: u64, w: u64) -> Answer
+fn touch_sign(f: Format, code: u64, w: u64) -> u64
     requires { ⌜ known f ≡ true ⌝ }
-    ensures { λ r. ⌜ outcome r ≡ done (signTouched f code w) ⌝ }
+    ensures { λ r. ⌜ r ≡ signTouched f code w ⌝ }
 {
-    match f.width() {
-        Answer::Stopped(s) => Answer::Stopped(s),
-        Answer::Done(width) => Answer::Done(touch_highest(width - 1, code, w)),
-    }
+    let width = f.width();
+    touch_highest(width.word() - 1, code, w)
 }
 
 fn whole_parts(n: i64) -> Parts
@@ -169,24 +167,39 @@ pub fn is_unary(code: u64) -> bool
     (NEGATE <= code) & (code <= NORMALISE)
 }
 
-// What a code makes of a good word.
-fn result(f: Format, code: u64, w: u64) -> Answer
-    requires { ⌜ checkWord f w ≡ done tt ⌝ }
-    ensures written { λ r. ⌜ outcome r ≡ done (unaryResult f code w (numberOf f w)) ⌝ }
-    ensures best { λ r. ⌜ (3 ≤ code → WhenDone (outcome r) (λ v. BestWord f (exactUnary code (numberOf f w .value)) v)) ⌝ }
+// What a code makes of a good word, in numbers that stay in registers.
+fn result_word(kind: u64, k: u64, code: u64, w: u64) -> u64
+    requires { ⌜ checkWord (record { kind = kind; k = k }) w ≡ done tt ⌝ }
+    ensures written { λ r. ⌜ r ≡ unaryResult (record { kind = kind; k = k }) code w (numberOf (record { kind = kind; k = k }) w) ⌝ }
+    ensures best { λ r. ⌜ (3 ≤ code → BestWord (record { kind = kind; k = k }) (exactUnary code (numberOf (record { kind = kind; k = k }) w .value)) r) ⌝ }
 {
+    let f = Format { kind: kind, k: k };
     let v = slash::value(f, w);
     if (code <= ABSOLUTE) & !slash::is_nan(v) {
         return touch_sign(f, code, w);
     }
     let exact = exact_value(code, v);
-    slash::write(
+    let written = slash::write(
         f,
         Number {
             value: exact,
             approximate: slash::is_approximate(f, w),
         },
-    )
+    );
+    written.word()
+}
+
+// What stops a call: its format, its code or its word.
+fn stops(f: Format, code: u64, w: u64) -> Checked
+    ensures { λ r. ⌜ checkOutcome r ≡ checkUnary f code w ⌝ }
+{
+    if !f.is_known() {
+        return Checked::Stopped(Stop::plain(Stop::FORMAT));
+    }
+    if !is_unary(code) {
+        return Checked::Stopped(Stop::plain(Stop::CODE));
+    }
+    slash::check(f, w)
 }
 
 // Code 1 negates w, 2 takes its absolute value, 3 its reciprocal, 4 its floor, 5 its ceiling, 6 is
@@ -195,14 +208,19 @@ pub fn unary(f: Format, code: u64, w: u64) -> Answer
     ensures written { λ r. ⌜ outcome r ≡ unaryWord f code w ⌝ }
     ensures best { λ r. ⌜ (3 ≤ code → WhenDone (outcome r) (λ v. BestWord f (exactUnary code (numberOf f w .value)) v)) ⌝ }
 {
-    if !f.is_known() {
-        return Answer::Stopped(Stop::plain(Stop::FORMAT));
-    }
-    if !is_unary(code) {
-        return Answer::Stopped(Stop::plain(Stop::CODE));
-    }
-    match slash::check(f, w) {
+    match stops(f, code, w) {
         Checked::Stopped(s) => Answer::Stopped(s),
-        Checked::Good => result(f, code, w),
+        Checked::Good => Answer::Done(result_word(f.kind, f.k, code, w)),
+    }
+}
+
+// The word of `unary` by itself, for a caller that has checked its words; 0 where it stops.
+pub fn result(f: Format, code: u64, w: u64) -> u64
+    ensures written { λ r. ⌜ r ≡ wordIn (unaryWord f code w) ⌝ }
+    ensures best { λ r. ⌜ WhenDone (unaryWord f code w) (λ _. 3 ≤ code → BestWord f (exactUnary code (numberOf f w .value)) r) ⌝ }
+{
+    match stops(f, code, w) {
+        Checked::Stopped(_) => 0,
+        Checked::Good => result_word(f.kind, f.k, code, w),
     }
 }

@@ -7,14 +7,12 @@ use native.Mathlib.Nat.{not-suc-le-zero, le-of-suc-le-suc}
 use native.Mathlib.Numerals.{add-one}
 use lib.ListN.{length, take, drop, set, getD, drop-of-length-le}
 use lib.Seq.{drop-cons, take-suc-set, take-all}
-use Rattle.slash.specs.Answers.{Outcome, stop, done, _then_, WhenDone, checkOutcome}
+use Rattle.slash.specs.Answers.{Outcome, stop, done, _then_, wordIn, WhenDone}
 use Rattle.slash.proofs.AnswerLaws.{plain-stop}
 use Rattle.slash.specs.declared.answer.Stop.{Stop}
-use Rattle.slash.specs.declared.reading.Checked.{Checked}
-use Rattle.slash.specs.declared.reading.Checked.the-variants as Checked
 use Rattle.vectors.specs.Each.{atPlace, each, vectorAfter, told, storedOutcome, EachPlace}
 use Rattle.vectors.specs.Vectors.{operands, places}
-use Rattle.vectors.specs.Steps.{checks, wordIn}
+use Rattle.vectors.specs.Steps.{checks}
 use Rattle.vectors.specs.declared.stored.Stored.{Stored}
 use Rattle.vectors.specs.declared.stored.Stored.the-variants as Stored
 
@@ -41,6 +39,15 @@ unfolding places
 length-places [] r e = refl
 length-places (x ∷ l) [] e = absurd (omega arith)
 length-places (x ∷ l) (y ∷ r) e = ap suc (length-places l r (shorter l r x y e))
+
+-- a call that is a check first tells what the check does
+pub told-checked : (c : Outcome (Unit {0})) (v : ℕ) (o : Outcome ℕ) → (c then λ _. done v) ≡ o → told o ≡ c
+unfolding told
+told-checked c v o e = ap told (sym e) ∙ go c
+  where
+    go : (d : Outcome (Unit {0})) → told (d then λ _. done v) ≡ d
+    go (stop n p) = refl
+    go (done u) = refl
 
 told-word : {B : Type 0} (o : Outcome B) (g : B → List ℕ) → told (o then λ x. done (g x)) ≡ told o
 unfolding told
@@ -147,11 +154,3 @@ unfolding told vectorAfter
 refused s n o old se e =
     let t : stop (s .number) (s .place) ≡ o = plain-stop s n se e in
     (rw (← t) refl, (rw (← t) refl, tt))
-
--- what a check answered, by its case
-module _ {a : Checked} {o : Outcome (Unit {0})} (h : checkOutcome a ≡ o) where
-  pub told-stop : {s : Stop} → a ≡ Checked.Stopped s → stop (s .number) (s .place) ≡ o
-  told-stop e = sym (ap checkOutcome e) ∙ h
-
-  pub told-good : a ≡ Checked.Good → done tt ≡ o
-  told-good e = sym (ap checkOutcome e) ∙ h

@@ -1,48 +1,28 @@
 -- The vector forms: their stops, and that each operation stops as its words' check does. Assumes nothing.
-use mathlib.Core.Path.{_≡_, refl}
+use mathlib.Core.Path.{_≡_, refl, sym, _∙_}
 use mathlib.Core.Logic.{_⊎_, inl, inr}
 use mathlib.Core.Bool.{true, false, and-false}
 use mathlib.Core.List.{List, map}
 use Prim.Native.Nat.{ℕ}
 use lib.ListN.{length}
 use borrow.Author.Tests.{eq-eqb, ne-eqb}
-use Rattle.slash.specs.Answers.{Outcome, stop, done, _then_}
+use Rattle.slash.specs.Answers.{stop, done, wordIn}
 use Rattle.slash.specs.declared.answer.Stop.{Stop}
 use Rattle.slash.specs.Formats.{known}
-use Rattle.slash.specs.Words.{numberOf, checkWord, readWord}
+use Rattle.slash.specs.Words.{checkWord}
 use Rattle.slash.specs.declared.format.Format.{Format}
-use Rattle.slash.specs.declared.number.Number.{Number}
-use Rattle.arithmetic.specs.Binary.{isBinary, combined, combinedWords, binaryWord}
+use Rattle.arithmetic.specs.Binary.{isBinary, binaryWord}
 use Rattle.arithmetic.specs.Conversion.{convertWord}
 use Rattle.unary.specs.Unary.{isUnary, unaryWord}
 use Rattle.vectors.specs.Each.{each, vectorAfter, told, storedOutcome, EachPlace}
 use Rattle.vectors.specs.Vectors.{Operands, places, sameLength, binaryEach, unaryEach, convertEach, BestBinary, BestUnary, BestConverted}
-use Rattle.vectors.specs.Steps.{checks, checkOperands, wordIn, binaryIn}
+use Rattle.vectors.specs.Steps.{checks, checkOperands, binaryIn}
 use Rattle.vectors.specs.declared.stored.Stored.{Stored}
 use Rattle.vectors.specs.declared.stored.Stored.the-variants as Stored
-use Rattle.arithmetic.proofs.BinaryLaws.{binary-best}
-use Rattle.arithmetic.proofs.ConversionLaws.{convert-best}
-use Rattle.unary.proofs.UnaryLaws.{unary-best}
-use Rattle.vectors.proofs.EachLaws.{each-stopped, each-done}
-
--- ---- what is told of steps
-
-one-step : (f : Format) (w : ℕ) (g : Number → ℕ) → told (readWord f w then λ x. done (g x)) ≡ checkWord f w
-unfolding told readWord
-one-step f w g = go (checkWord f w)
-  where
-    go : (o : Outcome (Unit {0})) → told ((o then λ _. done (numberOf f w)) then λ x. done (g x)) ≡ o
-    go (stop n p) = refl
-    go (done u) = refl
-
-two-steps : (f : Format) (v w : ℕ) (g : Number → Number → ℕ) → told (readWord f v then λ x. readWord f w then λ y. done (g x y)) ≡ (checkWord f v then λ _. checkWord f w)
-unfolding told readWord
-two-steps f v w g = go (checkWord f v) (checkWord f w)
-  where
-    go : (o p : Outcome (Unit {0})) → told ((o then λ _. done (numberOf f v)) then λ x. (p then λ _. done (numberOf f w)) then λ y. done (g x y)) ≡ (o then λ _. p)
-    go (stop n i) p = refl
-    go (done u) (stop n i) = refl
-    go (done u) (done t) = refl
+use Rattle.arithmetic.proofs.BinaryLaws.{binary-checked, check-words, binary-best}
+use Rattle.arithmetic.proofs.ConversionLaws.{convert-checked, check-operand, convert-best}
+use Rattle.unary.proofs.UnaryLaws.{unary-checked, check-word, unary-best}
+use Rattle.vectors.proofs.EachLaws.{told-checked, each-stopped, each-done}
 
 -- ---- binary operations
 
@@ -68,8 +48,8 @@ module _ (f : Format) (code : ℕ) (left right out : List ℕ) where
       binary-each-all e g = rw (h, i, eq-eqb _ _ e, eq-eqb _ _ g) refl
 
 pub binary-agrees : (f : Format) (code : ℕ) → known f ≡ true → isBinary code ≡ true → (x : Operands) → told (binaryWord f code (x .left) (x .right)) ≡ checkOperands f x
-unfolding binaryWord combinedWords checkOperands
-binary-agrees f code h i x = rw (h, i) (two-steps f (x .left) (x .right) (combined f code))
+unfolding checkOperands
+binary-agrees f code h i x = told-checked _ _ _ (binary-checked f code (x .left) (x .right)) ∙ sym (check-words f code (x .left) (x .right) h i)
 
 module _ (f : Format) (code : ℕ) (left right out : List ℕ) where
   module _ (h : known f ≡ true) (i : isBinary code ≡ true) (e : length left ≡ length right) (g : length left ≡ length out) (res : Stored) (re : storedOutcome res ≡ checks (checkOperands f) 0 (places left right)) where
@@ -105,8 +85,7 @@ module _ (f : Format) (code : ℕ) (operand out : List ℕ) where
       unary-each-all e = rw (h, i, eq-eqb _ _ e) refl
 
 pub unary-agrees : (f : Format) (code : ℕ) → known f ≡ true → isUnary code ≡ true → (w : ℕ) → told (unaryWord f code w) ≡ checkWord f w
-unfolding unaryWord
-unary-agrees f code h i w = rw (h, i) (one-step f w _)
+unary-agrees f code h i w = told-checked _ _ _ (unary-checked f code w) ∙ sym (check-word f code w h i)
 
 module _ (f : Format) (code : ℕ) (operand out : List ℕ) where
   module _ (h : known f ≡ true) (i : isUnary code ≡ true) (e : length operand ≡ length out) (res : Stored) (re : storedOutcome res ≡ checks (checkWord f) 0 (operand)) where
@@ -142,8 +121,7 @@ module _ (f g : Format) (operand out : List ℕ) where
       convert-each-all e = rw (h, i, eq-eqb _ _ e) refl
 
 pub convert-agrees : (f g : Format) → known f ≡ true → known g ≡ true → (w : ℕ) → told (convertWord f g w) ≡ checkWord f w
-unfolding convertWord
-convert-agrees f g h i w = rw (h, i) (one-step f w _)
+convert-agrees f g h i w = told-checked _ _ _ (convert-checked f g w) ∙ sym (check-operand f g w h i)
 
 module _ (f g : Format) (operand out : List ℕ) where
   module _ (h : known f ≡ true) (i : known g ≡ true) (e : length operand ≡ length out) (res : Stored) (re : storedOutcome res ≡ checks (checkWord f) 0 (operand)) where

@@ -1,7 +1,7 @@
 -- Steps of the code on its way to what the papers say; no part of that.
 use Prim.Native.Nat.{ℕ, suc}
 use mathlib.Core.List.{List, [], _∷_}
-use Rattle.slash.specs.Answers.{Outcome, stop, done, _then_}
+use Rattle.slash.specs.Answers.{Outcome, done, _then_, wordIn}
 use Rattle.slash.specs.Words.{checkWord}
 use Rattle.slash.specs.declared.format.Format.{Format}
 use Rattle.arithmetic.specs.Binary.{binaryWord}
@@ -19,10 +19,6 @@ checks check i (x ∷ xs) =
 unfoldable pub checkOperands : Format → Operands → Outcome (Unit {0})
 checkOperands f x = checkWord f (x .left) then λ _. checkWord f (x .right)
 
--- What is stored for an outcome; 0 where it is a stop, which doesn't come to pass.
-unfoldable pub wordIn : Outcome ℕ → ℕ
-wordIn (stop number place) = 0
-wordIn (done w) = w
-
+-- What is stored for the words at a place.
 unfoldable pub binaryIn : Format → ℕ → Operands → ℕ
 binaryIn f code x = wordIn (binaryWord f code (x .left) (x .right))

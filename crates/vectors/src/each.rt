@@ -2,36 +2,25 @@
 ghost use mathlib.Core.Path.{_≡_};
 ghost use mathlib.Core.List.{map};
 ghost use lib.ListN.{length};
-ghost use Rattle.slash.specs.Answers.{outcome, WhenDone};
-ghost use Rattle.arithmetic.specs.Binary.{binaryWord};
+ghost use Rattle.slash.specs.Answers.{wordIn, WhenDone};
 ghost use Rattle.arithmetic.specs.Conversion.{convertWord};
 ghost use Rattle.unary.specs.Unary.{unaryWord};
 ghost use Rattle.vectors.specs.Each.{vectorAfter, told, storedOutcome, EachPlace};
 ghost use Rattle.vectors.specs.Vectors.{places, binaryEach, unaryEach, convertEach, BestBinary, BestUnary, BestConverted};
-ghost use Rattle.vectors.specs.Steps.{wordIn, binaryIn};
+ghost use Rattle.vectors.specs.Steps.{binaryIn};
 use crate::check;
 use crate::stored::Stored;
-use slash::Answer;
 use slash::Format;
 use slash::Stop;
 
-// The word of an answer; no word that was checked is stopped here.
-fn word_in(a: Answer) -> u64
-    ensures { λ r. ⌜ r ≡ wordIn (outcome a) ⌝ }
-{
-    match a {
-        Answer::Done(w) => w,
-        Answer::Stopped(_) => 0,
-    }
-}
-
+// The words of all three stores have been checked: none is 0 for a stop.
 fn store_binary(f: Format, code: u64, left: &[u64], right: &[u64], out: &mut [u64])
     requires { ⌜ (length (now left) ≡ length (now right)) × (length (now left) ≡ length (now out)) ⌝ }
     ensures { λ _. ⌜ now (out .exit) ≡ map (binaryIn f code) (places (now (left .entry)) (now (right .entry))) ⌝ }
 {
     let mut i = 0;
     while i < left.len() {
-        out[i] = word_in(arithmetic::binary(f, code, left[i], right[i]));
+        out[i] = arithmetic::combined(f, code, left[i], right[i]);
         i += 1;
     }
 }
@@ -42,7 +31,7 @@ fn store_unary(f: Format, code: u64, operand: &[u64], out: &mut [u64])
 {
     let mut i = 0;
     while i < operand.len() {
-        out[i] = word_in(unary::unary(f, code, operand[i]));
+        out[i] = unary::result(f, code, operand[i]);
         i += 1;
     }
 }
@@ -53,7 +42,7 @@ fn store_converted(source: Format, target: Format, operand: &[u64], out: &mut [u
 {
     let mut i = 0;
     while i < operand.len() {
-        out[i] = word_in(arithmetic::convert(source, target, operand[i]));
+        out[i] = arithmetic::converted(source, target, operand[i]);
         i += 1;
     }
 }

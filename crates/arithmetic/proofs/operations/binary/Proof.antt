@@ -1,55 +1,31 @@
 -- `arithmetic::operations::binary` meets its contract. Assumes nothing.
-use Rattle.arithmetic.proofs.BinaryLaws.{binary-unknown, binary-code, binary-done}
-use Rattle.slash.proofs.AnswerLaws.{plain-stop}
-use borrow.Author.Tests.{not-true, not-false}
-use mathlib.Core.Path.{sym, _∙_}
+use Rattle.arithmetic.proofs.BinaryLaws.{binary-checked, binary-good}
+use Rattle.slash.proofs.AnswerLaws.{told-stop, told-good, checked-stop, checked-made}
 use borrow.Author.Needs.{needs}
 use Rattle.arithmetic.proofs.operations.binary.Statement.{statement}
 use Rattle.arithmetic.proofs.operations.binary.Tie as tie
+use Rattle.arithmetic.proofs.operations.combined_word.Reads as combined-word-reads
+use Rattle.arithmetic.proofs.operations.stops.Reads as stops-reads
 
-is-known-requires : tie.Need-is-known-requires
-is-known-requires c κs = search needs
+stops-requires : tie.Need-stops-requires
+stops-requires c κs = search needs
 
-plain-requires : tie.Need-plain-requires
-plain-requires c κs = search needs
+enum-known-s : tie.Need-enum-known-s
+enum-known-s c = search needs
+
+enum-told : tie.Need-enum-told
+enum-told c = search needs
+
+combined-word-requires : tie.Need-combined-word-requires
+combined-word-requires c κs = binary-good _ (c .before .before .before .args .code) _ _ (told-good (c .before .before .stops .ensures) (c .enum-told .given .1))
 
 returns : tie.Need-returns
-returns c =
-    (plain-stop _ 1 (c .plain .ensures) (binary-unknown _ _ _ _ (sym (c .before .before .is-known .ensures) ∙ not-true _ (c .before .if1 .taken))), tt)
-
-is-binary-requires : tie.Need-is-binary-requires
-is-binary-requires c κs = search needs
-
-plain-requires-2 : tie.Need-plain-requires-2
-plain-requires-2 c κs = search needs
+returns c = (checked-stop _ _ (binary-checked _ _ _ _) (told-stop (c .before .before .before .stops .ensures) (c .before .s .given .1)), tt)
 
 returns-2 : tie.Need-returns-2
-returns-2 c = (
-  plain-stop _ 2 (c .plain2 .ensures)
-      (binary-code _ _ _ _ (sym (c .before .before .before .before .is-known .ensures) ∙ not-false _ (c .before .before .before .if1 .left))
-      (sym (c .before .before .is-binary .ensures) ∙ not-true _ (c .before .if2 .taken))),
-  tt,
-)
-
-combine-words-requires : tie.Need-combine-words-requires
-combine-words-requires c κs = sym (c .before .before .before .is-known .ensures) ∙ not-false _ (c .before .before .if1 .left)
-
-returns-3 : tie.Need-returns-3
-returns-3 c = (
-  binary-done _ _ _ _ (sym (c .before .before .before .before .is-known .ensures) ∙ not-false _ (c .before .before .before .if1 .left))
-      (sym (c .before .before .is-binary .ensures) ∙ not-false _ (c .before .if2 .left)) (c .combine-words .ensures .0),
-  c .combine-words .ensures .1,
-)
+returns-2 c = (checked-made _ _ (binary-checked _ _ _ _) (told-good (c .before .before .before .stops .ensures) (c .before .enum-told .given .1)) (c .combined-word .ensures .0), c .combined-word .ensures .1)
 
 pub binary-spec : {M : Type 1} → statement M
 binary-spec =
     tie.close
-    (tie.spec
-    is-known-requires
-    plain-requires
-    returns
-    is-binary-requires
-    plain-requires-2
-    returns-2
-    combine-words-requires
-    returns-3)
+    (tie.spec stops-requires enum-known-s enum-told combined-word-requires returns returns-2)

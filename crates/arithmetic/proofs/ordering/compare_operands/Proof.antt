@@ -1,12 +1,13 @@
 -- `arithmetic::ordering::compare_operands` meets its contract. Assumes nothing.
 use Rattle.slash.proofs.AnswerLaws.{at-both}
-use Rattle.arithmetic.proofs.OperandLaws.{small-finite, products}
+use Rattle.arithmetic.proofs.OperandLaws.{small-finite}
 use Rattle.arithmetic.specs.Comparison.{compareOf}
-use native.Mathlib.Omega.{arith}
 use mathlib.Core.Path.{refl, _∙_}
 use borrow.Author.Needs.{needs}
 use Rattle.arithmetic.proofs.ordering.compare_operands.Statement.{statement}
 use Rattle.arithmetic.proofs.ordering.compare_operands.Tie as tie
+use Rattle.arithmetic.proofs.ordering.compare_parts.Reads as compare-parts-reads
+use Rattle.arithmetic.proofs.ordering.outside_all.Reads as outside-all-reads
 
 enum-known-x : tie.Need-enum-known-x
 enum-known-x c = search needs
@@ -14,21 +15,8 @@ enum-known-x c = search needs
 enum-known-y : tie.Need-enum-known-y
 enum-known-y c = search needs
 
-mul-signed-order : tie.Need-mul-signed-order
-mul-signed-order c =
-    let pre = c .before .before .before .before .before .before .before .before .pre in
-    omega (arith, products (small-finite (c .before .before .before .before .before .before .x .given .1) (pre .0)) (small-finite (c .before .before .before .y .given .1) (pre .1)))
-
-mul-signed-order-2 : tie.Need-mul-signed-order-2
-mul-signed-order-2 c =
-    let pre = c .before .before .before .before .before .before .before .before .before .before .pre in
-    omega (arith, products (small-finite (c .before .before .before .before .before .y .given .1) (pre .1)) (small-finite (c .before .before .before .before .before .before .before .before .x .given .1) (pre .0)))
-
-signed-order-requires : tie.Need-signed-order-requires
-signed-order-requires c κs = let pre = c .before .before .before .before .before .before .before .before .before .before .pre in
-    let p = small-finite (c .before .before .before .before .before .before .before .before .x .given .1) (pre .0) in
-    let q = small-finite (c .before .before .before .before .before .y .given .1) (pre .1) in
-    (products p q .ad, products q p .ad)
+compare-parts-requires : tie.Need-compare-parts-requires
+compare-parts-requires c κs = (small-finite (c .before .before .before .before .x .given .1) (c .before .before .before .before .before .before .pre .0), small-finite (c .before .y .given .1) (c .before .before .before .before .before .before .pre .1))
 
 enum-known-y-2 : tie.Need-enum-known-y-2
 enum-known-y-2 c = search needs
@@ -53,7 +41,7 @@ outside-all-requires-3 c κs = search needs
 
 returns : tie.Need-returns
 unfolding compareOf
-returns c = at-both compareOf (c .before .before .before .before .before .before .before .before .before .x .given .1) (c .before .before .before .before .before .before .y .given .1) (c .signed-order .ensures)
+returns c = at-both compareOf (c .before .before .before .before .before .x .given .1) (c .before .before .y .given .1) (c .compare-parts .ensures)
 
 returns-2 : tie.Need-returns-2
 unfolding compareOf
@@ -65,9 +53,7 @@ returns-3 c = at-both compareOf (c .before .before .before .before .x2 .given .1
 
 returns-4 : tie.Need-returns-4
 unfolding compareOf
-returns-4 c =
-    at-both compareOf (c .before .before .before .before .before .before .x2 .given .1) (c .before .before .before .y3 .given .1)
-    (c .outside-all3 .ensures ∙ rw (c .before .if1 .taken) refl)
+returns-4 c = at-both compareOf (c .before .before .before .before .before .before .x2 .given .1) (c .before .before .before .y3 .given .1) (c .outside-all3 .ensures ∙ rw (c .before .if1 .taken) refl)
 
 returns-5 : tie.Need-returns-5
 unfolding compareOf
@@ -79,9 +65,7 @@ compare-operands-spec =
     (tie.spec
     enum-known-x
     enum-known-y
-    mul-signed-order
-    mul-signed-order-2
-    signed-order-requires
+    compare-parts-requires
     enum-known-y-2
     outside-all-requires
     enum-known-x-2

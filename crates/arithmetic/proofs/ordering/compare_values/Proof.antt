@@ -1,45 +1,51 @@
 -- `arithmetic::ordering::compare_values` meets its contract. Assumes nothing.
-use Rattle.arithmetic.proofs.ComparisonLaws.{compare-nan, compare-operands}
-use Rattle.arithmetic.specs.Operands.{Small}
-use mathlib.Core.Bool.{_||_}
-use mathlib.Core.Path.{sym, ap₂, subst}
+use Rattle.slash.proofs.AnswerLaws.{at-both}
+use Rattle.slash.specs.Words.{isNan}
+use Rattle.slash.specs.declared.number.Value.{Value}
+use Rattle.arithmetic.specs.Operands.{operandOf, Small}
+use Rattle.arithmetic.specs.Comparison.{compareValues}
+use mathlib.Core.Path.{refl, subst}
 use borrow.Author.Needs.{needs}
 use Rattle.arithmetic.proofs.ordering.compare_values.Statement.{statement}
 use Rattle.arithmetic.proofs.ordering.compare_values.Tie as tie
+use Rattle.arithmetic.proofs.ordering.compare_any.Reads as compare-any-reads
+use Rattle.arithmetic.proofs.ordering.compare_parts.Reads as compare-parts-reads
 
-is-nan-requires : tie.Need-is-nan-requires
-is-nan-requires c κs = search needs
+enum-known-v : tie.Need-enum-known-v
+enum-known-v c = search needs
 
-is-nan-requires-2 : tie.Need-is-nan-requires-2
-is-nan-requires-2 c κs = search needs
+compare-any-requires : tie.Need-compare-any-requires
+compare-any-requires c κs = c .before .pre
 
 returns : tie.Need-returns
-returns c = compare-nan _ _ _ (ap₂ _||_ (c .before .before .is-nan .ensures) (c .before .is-nan2 .ensures)) (c .if1 .taken)
+returns c = c .compare-any .ensures
 
-as-operand-requires : tie.Need-as-operand-requires
-as-operand-requires c κs = search needs
+enum-known-w : tie.Need-enum-known-w
+enum-known-w c = search needs
 
-as-operand-requires-2 : tie.Need-as-operand-requires-2
-as-operand-requires-2 c κs = search needs
-
-compare-operands-requires : tie.Need-compare-operands-requires
-compare-operands-requires c κs =
-    let pre = c .before .before .before .before .before .pre in
-    (subst Small (sym (c .before .as-operand .ensures)) (pre .0), subst Small (sym (c .as-operand2 .ensures)) (pre .1))
+compare-any-requires-2 : tie.Need-compare-any-requires-2
+compare-any-requires-2 c κs = (subst (λ (x : Value). Small (operandOf x)) (c .before .before .v .given .1) (c .before .before .before .before .pre .0), c .before .before .before .before .pre .1)
 
 returns-2 : tie.Need-returns-2
-returns-2 c =
-    compare-operands _ _ _ (ap₂ _||_ (c .before .before .before .before .before .is-nan .ensures) (c .before .before .before .before .is-nan2 .ensures)) (c .before .before .before .if1 .left)
-    _ _ (c .before .before .as-operand .ensures) (c .before .as-operand2 .ensures) _ (c .compare-operands .ensures)
+returns-2 c = at-both compareValues (c .before .before .before .v .given .1) refl (c .compare-any2 .ensures)
+
+compare-parts-requires : tie.Need-compare-parts-requires
+unfolding operandOf
+compare-parts-requires c κs = (subst (λ (x : Value). Small (operandOf x)) (c .before .before .before .before .v .given .1) (c .before .before .before .before .before .before .pre .0), subst (λ (x : Value). Small (operandOf x)) (c .before .w .given .1) (c .before .before .before .before .before .before .pre .1))
+
+returns-3 : tie.Need-returns-3
+unfolding compareValues isNan operandOf
+returns-3 c = at-both compareValues (c .before .before .before .before .before .v .given .1) (c .before .before .w .given .1) (c .compare-parts .ensures)
 
 pub compare-values-spec : {M : Type 1} → statement M
 compare-values-spec =
     tie.close
     (tie.spec
-    is-nan-requires
-    is-nan-requires-2
+    enum-known-v
+    compare-any-requires
     returns
-    as-operand-requires
-    as-operand-requires-2
-    compare-operands-requires
-    returns-2)
+    enum-known-w
+    compare-any-requires-2
+    returns-2
+    compare-parts-requires
+    returns-3)

@@ -1,48 +1,31 @@
 -- `unary::operation::result` meets its contract. Assumes nothing.
-use Rattle.unary.proofs.UnaryLaws.{good-small, good-touched, good-written}
-use Rattle.slash.proofs.WordLaws.{checked-known}
-use mathlib.Core.Path.{refl, ap}
-use mathlib.Core.Bool.{Bool, not, _&&_}
-use lib.Dec.{leb}
+use Rattle.unary.proofs.UnaryLaws.{BestHere, unary-checked, unary-good}
+use Rattle.slash.proofs.AnswerLaws.{told-stop, told-good, checked-stop, checked-made, stopped-word, done-word}
 use borrow.Author.Needs.{needs}
 use Rattle.unary.proofs.operation.result.Statement.{statement}
 use Rattle.unary.proofs.operation.result.Tie as tie
+use Rattle.unary.proofs.operation.result_word.Reads as result-word-reads
+use Rattle.unary.proofs.operation.stops.Reads as stops-reads
 
-value-requires : tie.Need-value-requires
-value-requires c κs = search needs
+stops-requires : tie.Need-stops-requires
+stops-requires c κs = search needs
 
-is-nan-requires : tie.Need-is-nan-requires
-is-nan-requires c κs = search needs
+enum-told : tie.Need-enum-told
+enum-told c = search needs
 
-touch-sign-requires : tie.Need-touch-sign-requires
-touch-sign-requires c κs = checked-known _ _ (c .before .before .before .pre)
+enum-told-2 : tie.Need-enum-told-2
+enum-told-2 c = search needs
+
+result-word-requires : tie.Need-result-word-requires
+result-word-requires c κs = unary-good _ (c .before .before .before .args .code) _ (told-good (c .before .before .stops .ensures) (c .enum-told2 .given .1))
 
 returns : tie.Need-returns
-returns c = let marked : Bool → Bool = λ b. leb (c .before .before .before .before .args .code) 2 && not b in
-    good-touched _ _ _ (c .before .before .before .before .pre) _ (c .before .before .before .value .ensures) _ (ap marked (c .before .before .is-nan .ensures)) _ (c .before .if1 .taken) (c .touch-sign .ensures)
-
-exact-value-requires : tie.Need-exact-value-requires
-exact-value-requires c κs = good-small _ (c .before .before .before .args .code) _ (c .before .before .before .pre) _ (c .before .before .value .ensures) _ refl
-
-is-approximate-requires : tie.Need-is-approximate-requires
-is-approximate-requires c κs = search needs
-
-write-requires : tie.Need-write-requires
-write-requires c κs = search needs
+returns c = stopped-word (BestHere (c .before .before .before .args .f) (c .before .before .before .args .code) (c .before .before .before .args .w)) _ (checked-stop _ _ (unary-checked _ _ _) (told-stop (c .before .before .stops .ensures) (c .enum-told .given .1)))
 
 returns-2 : tie.Need-returns-2
-returns-2 c = let marked : Bool → Bool = λ b. leb (c .before .before .before .before .before .before .args .code) 2 && not b in
-    good-written _ _ _ (c .before .before .before .before .before .before .pre) _ (c .before .before .before .before .before .value .ensures) _ (ap marked (c .before .before .before .before .is-nan .ensures)) _ _ _ (c .before .before .before .if1 .left) (c .before .before .exact-value .ensures) (c .before .is-approximate .ensures) (c .write .ensures)
+returns-2 c = done-word (BestHere (c .before .before .before .before .args .f) (c .before .before .before .before .args .code) (c .before .before .before .before .args .w)) _ (checked-made _ _ (unary-checked _ _ _) (told-good (c .before .before .before .stops .ensures) (c .before .enum-told2 .given .1)) (c .result-word .ensures .0)) (c .result-word .ensures .1)
 
 pub result-spec : {M : Type 1} → statement M
 result-spec =
     tie.close
-    (tie.spec
-    value-requires
-    is-nan-requires
-    touch-sign-requires
-    returns
-    exact-value-requires
-    is-approximate-requires
-    write-requires
-    returns-2)
+    (tie.spec stops-requires enum-told enum-told-2 result-word-requires returns returns-2)

@@ -1,5 +1,5 @@
 -- `vectors::check::pair` meets its contract. Assumes nothing.
-use Rattle.vectors.proofs.EachLaws.{told-stop, told-good}
+use Rattle.slash.proofs.AnswerLaws.{told-stop, told-good}
 use Rattle.slash.proofs.AnswerLaws.{then-stop, then-done}
 use Rattle.vectors.specs.Steps.{checkOperands}
 use borrow.Author.Needs.{needs}

@@ -1,5 +1,6 @@
 -- `vectors::check::pairs` meets its contract. Assumes nothing.
-use Rattle.vectors.proofs.EachLaws.{operands-at, length-places, check-next, check-stop, check-end, told-stop, told-good}
+use Rattle.vectors.proofs.EachLaws.{operands-at, length-places, check-next, check-stop, check-end}
+use Rattle.slash.proofs.AnswerLaws.{told-stop, told-good}
 use Rattle.vectors.specs.Each.{storedOutcome}
 use Rattle.vectors.specs.Vectors.{places}
 use Rattle.vectors.specs.Steps.{checks, checkOperands}

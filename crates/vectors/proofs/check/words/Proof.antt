@@ -1,5 +1,6 @@
 -- `vectors::check::words` meets its contract. Assumes nothing.
-use Rattle.vectors.proofs.EachLaws.{word-at, check-next, check-stop, check-end, told-stop, told-good}
+use Rattle.vectors.proofs.EachLaws.{word-at, check-next, check-stop, check-end}
+use Rattle.slash.proofs.AnswerLaws.{told-stop, told-good}
 use Rattle.slash.specs.Words.{checkWord}
 use Rattle.vectors.specs.Each.{storedOutcome}
 use Rattle.vectors.specs.Steps.{checks}

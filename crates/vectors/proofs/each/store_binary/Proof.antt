@@ -1,10 +1,10 @@
 -- `vectors::each::store_binary` meets its contract. Assumes nothing.
 use Rattle.vectors.proofs.EachLaws.{operands-at, length-places, store-next, store-end}
 use Rattle.vectors.specs.Vectors.{places}
-use Rattle.vectors.specs.Steps.{wordIn, binaryIn}
+use Rattle.vectors.specs.Steps.{binaryIn}
 use borrow.Author.Needs.{needs}
 use native.Mathlib.Omega.{arith}
-use mathlib.Core.Path.{_≡_, refl, sym, ap, _∙_}
+use mathlib.Core.Path.{_≡_, refl, sym, _∙_}
 use mathlib.Core.List.{_++_, map}
 use Prim.Native.Nat.{_≤_, _-_}
 use lib.ListN.{length, take, drop, length-set}
@@ -20,23 +20,20 @@ abbrev μ-loop : tie.MeasureT-loop
 loop-holds : tie.Need-loop-holds Inv-loop μ-loop
 loop-holds c = (omega arith, refl, refl)
 
-mul-binary : tie.Need-mul-binary Inv-loop μ-loop
-mul-binary c = search needs
+mul-combined : tie.Need-mul-combined Inv-loop μ-loop
+mul-combined c = search needs
 
-shared-slice-read-binary : tie.Need-shared-slice-read-binary Inv-loop μ-loop
-shared-slice-read-binary c = search needs
+shared-slice-read-combined : tie.Need-shared-slice-read-combined Inv-loop μ-loop
+shared-slice-read-combined c = search needs
 
-mul-binary-2 : tie.Need-mul-binary-2 Inv-loop μ-loop
-mul-binary-2 c = search needs
+mul-combined-2 : tie.Need-mul-combined-2 Inv-loop μ-loop
+mul-combined-2 c = search needs
 
-shared-slice-read-binary-2 : tie.Need-shared-slice-read-binary-2 Inv-loop μ-loop
-shared-slice-read-binary-2 c = search needs
+shared-slice-read-combined-2 : tie.Need-shared-slice-read-combined-2 Inv-loop μ-loop
+shared-slice-read-combined-2 c = search needs
 
-binary-requires : tie.Need-binary-requires Inv-loop μ-loop
-binary-requires c κs = search needs
-
-word-in-requires : tie.Need-word-in-requires Inv-loop μ-loop
-word-in-requires c κs = search needs
+combined-requires : tie.Need-combined-requires Inv-loop μ-loop
+combined-requires c κs = search needs
 
 mul-out : tie.Need-mul-out Inv-loop μ-loop
 mul-out c = search needs
@@ -53,14 +50,14 @@ loop-less c = search needs
 loop-again : tie.Need-loop-again Inv-loop μ-loop
 unfolding binaryIn
 loop-again c =
-    let start = c .before .before .before .before .before .before .before .before .before in
-    let at = c .before .before .before .before .before .loop in
-    let below = c .before .before .before .before .loop-test .taken in (
+    let start = c .before .before .before .before .before .before .before .before in
+    let at = c .before .before .before .before .loop in
+    let below = c .before .before .before .loop-test .taken in (
       omega arith,
       simp length-set (at .inv .1),
       store-next (binaryIn (start .args .f) (start .args .code)) (places (start .args .left .now) (start .args .right .now)) (at .out) (at .i) _ _
           (operands-at (start .args .left .now) (start .args .right .now) (at .i) (start .pre .0) below) (omega (arith, below, start .pre .1, at .inv .1))
-          (c .word-in .ensures ∙ ap wordIn (c .before .binary .ensures .0))
+          (c .combined .ensures .0)
           ∙ at .inv .2,
     )
 
@@ -84,12 +81,11 @@ store-binary-spec =
     Inv-loop
     μ-loop
     loop-holds
-    mul-binary
-    shared-slice-read-binary
-    mul-binary-2
-    shared-slice-read-binary-2
-    binary-requires
-    word-in-requires
+    mul-combined
+    shared-slice-read-combined
+    mul-combined-2
+    shared-slice-read-combined-2
+    combined-requires
     mul-out
     slice-write-out
     add-i

@@ -1,10 +1,10 @@
 -- `vectors::each::store_converted` meets its contract. Assumes nothing.
 use Rattle.vectors.proofs.EachLaws.{word-at, store-next, store-end}
-use Rattle.vectors.specs.Steps.{wordIn}
+use Rattle.slash.specs.Answers.{wordIn}
 use Rattle.arithmetic.specs.Conversion.{convertWord}
 use borrow.Author.Needs.{needs}
 use native.Mathlib.Omega.{arith}
-use mathlib.Core.Path.{_≡_, refl, sym, ap, _∙_}
+use mathlib.Core.Path.{_≡_, refl, sym, _∙_}
 use mathlib.Core.List.{_++_, map}
 use Prim.Native.Nat.{ℕ, _≤_, _-_}
 use lib.ListN.{length, take, drop, length-set}
@@ -20,17 +20,14 @@ abbrev μ-loop : tie.MeasureT-loop
 loop-holds : tie.Need-loop-holds Inv-loop μ-loop
 loop-holds c = (omega arith, refl, refl)
 
-mul-convert : tie.Need-mul-convert Inv-loop μ-loop
-mul-convert c = search needs
+mul-converted : tie.Need-mul-converted Inv-loop μ-loop
+mul-converted c = search needs
 
-shared-slice-read-convert : tie.Need-shared-slice-read-convert Inv-loop μ-loop
-shared-slice-read-convert c = search needs
+shared-slice-read-converted : tie.Need-shared-slice-read-converted Inv-loop μ-loop
+shared-slice-read-converted c = search needs
 
-convert-requires : tie.Need-convert-requires Inv-loop μ-loop
-convert-requires c κs = search needs
-
-word-in-requires : tie.Need-word-in-requires Inv-loop μ-loop
-word-in-requires c κs = search needs
+converted-requires : tie.Need-converted-requires Inv-loop μ-loop
+converted-requires c κs = search needs
 
 mul-out : tie.Need-mul-out Inv-loop μ-loop
 mul-out c = search needs
@@ -46,13 +43,13 @@ loop-less c = search needs
 
 loop-again : tie.Need-loop-again Inv-loop μ-loop
 loop-again c =
-    let start = c .before .before .before .before .before .before .before in
-    let at = c .before .before .before .before .loop in
-    let below = c .before .before .before .loop-test .taken in (
+    let start = c .before .before .before .before .before .before in
+    let at = c .before .before .before .loop in
+    let below = c .before .before .loop-test .taken in (
       omega arith,
       simp length-set (at .inv .1),
       store-next (λ (x : ℕ). wordIn (convertWord (start .args .source) (start .args .target) x)) (start .args .operand .now) (at .out) (at .i) _ _ (word-at (start .args .operand .now) (at .i) below)
-          (omega (arith, below, start .pre, at .inv .1)) (c .word-in .ensures ∙ ap wordIn (c .before .convert .ensures .0))
+          (omega (arith, below, start .pre, at .inv .1)) (c .converted .ensures .0)
           ∙ at .inv .2,
     )
 
@@ -72,10 +69,9 @@ store-converted-spec =
     Inv-loop
     μ-loop
     loop-holds
-    mul-convert
-    shared-slice-read-convert
-    convert-requires
-    word-in-requires
+    mul-converted
+    shared-slice-read-converted
+    converted-requires
     mul-out
     slice-write-out
     add-i
