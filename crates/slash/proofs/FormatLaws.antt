@@ -12,7 +12,7 @@ use Rattle.convergents.specs.Rounding.{Limit, held}
 use Rattle.convergents.proofs.Optimal.{held-is}
 use Rattle.slash.specs.Answers.{stop, done}
 use Rattle.slash.specs.Bits.{bitCount}
-use Rattle.slash.specs.Formats.{isFixed, isFloating, kFits, known, ofKnown, makeFormat, slashBits, widthOf, holds, largestNumerator, largestDenominator}
+use Rattle.slash.specs.Formats.{isFixed, isFloating, kFits, known, ofKnown, makeFormat, slashBits, widthOf, holds, largestPart}
 use Rattle.slash.specs.declared.format.Format.{Format}
 use Rattle.slash.proofs.BitLaws.{least-power, least-count, bit-count-lt, bit-count-le, bit-count-pos, bit-count-mono}
 
@@ -113,13 +113,13 @@ module _ (f : Format) where
   unfolding widthOf
   width-floating n b e = rw (ne-eqb _ _ n, e) refl
 
-  pub largest-fixed : f .kind ≡ 1 → (p : ℕ) → p ≡ 2 ^ f .k → (p - 1 ≡ largestNumerator f) × (p - 1 ≡ largestDenominator f)
-  unfolding largestNumerator largestDenominator
-  largest-fixed e p h = (rw (eq-eqb _ _ e, h) refl, rw (eq-eqb _ _ e, h) refl)
+  pub largest-fixed : f .kind ≡ 1 → (p : ℕ) → p ≡ 2 ^ f .k → p - 1 ≡ largestPart f
+  unfolding largestPart
+  largest-fixed e p h = rw (eq-eqb _ _ e, h) refl
 
-  pub largest-floating : (f .kind ≡ 1 → ⊥) → (p : ℕ) → p ≡ 2 ^ (f .k - 1) → (p - 1 ≡ largestNumerator f) × (p - 1 ≡ largestDenominator f)
-  unfolding largestNumerator largestDenominator
-  largest-floating n p h = (rw (ne-eqb _ _ n, h) refl, rw (ne-eqb _ _ n, h) refl)
+  pub largest-floating : (f .kind ≡ 1 → ⊥) → (p : ℕ) → p ≡ 2 ^ (f .k - 1) → p - 1 ≡ largestPart f
+  unfolding largestPart
+  largest-floating n p h = rw (ne-eqb _ _ n, h) refl
 
   -- a word has from 1 to 64 bits
   pub width-range : known f ≡ true → (0 < widthOf f) × (widthOf f < 65)
@@ -213,45 +213,30 @@ module _ (f : Format) (n d : ℕ) (h : known f ≡ true) (l : held (holds f) (pa
   pub floating-parts : (f .kind ≡ 1 → ⊥) → 1 ≤ d → bitCount n + bitCount d ≤ f .k
   floating-parts e g = floating-holds f n d e (held-some g)
 
--- ---- the largest parts are held, and no held pair has larger ones
+-- ---- the largest part is held on each side, and no held pair has a larger one
 
 module _ (f : Format) (h : known f ≡ true) where
-  -- the largest part is held beside any part of one bit
-  largest-beside : (one : ℕ) → one ≤ 1 → (holds f (largestNumerator f) one ≡ true) × (holds f one (largestDenominator f) ≡ true)
-  unfolding largestNumerator largestDenominator
-  largest-beside one o = go (ℕ-discrete (f .kind) 1)
+  pub largest-held : (holds f (largestPart f) 1 ≡ true) × (holds f 1 (largestPart f) ≡ true)
+  largest-held = go (ℕ-discrete (f .kind) 1)
     where
-      k : (2 ≤ f .k) × (f .k ≤ 32)
-      k = known-k f h
+      m : ℕ
+      m = largestPart f
 
-      fixed : f .kind ≡ 1 → (holds f (2 ^ f .k - 1) one ≡ true) × (holds f one (2 ^ f .k - 1) ≡ true)
-      fixed e =
-          let m : ℕ = 2 ^ f .k - 1 in
-          let l : one ≤ m = omega (arith, pow-mono (k .0)) in
-          let i : m ≤ m = omega arith in
-          (holds-both f m one e i l, holds-both f one m e l i)
+      go : Dec (f .kind ≡ 1) → (holds f m 1 ≡ true) × (holds f 1 m ≡ true)
+      go (yes e) =
+          let l : 1 ≤ 2 ^ f .k - 1 = omega (arith, pow-mono (known-k f h .0)) in
+          let i : m ≤ 2 ^ f .k - 1 = omega (arith, largest-fixed f e _ refl) in
+          (holds-both f m 1 e i l, holds-both f 1 m e l i)
+      go (no n) =
+          let a : bitCount m ≤ f .k - 1 =
+          bit-count-le m (f .k - 1) (omega (arith, known-k f h)) (omega (arith, largest-floating f n _ refl, pow-pos (f .k - 1)))
+          in
+          let b : bitCount 1 ≤ 1 = bit-count-le 1 1 (omega arith) (omega arith) in
+          let i : bitCount m + bitCount 1 ≤ f .k = omega (arith, known-k f h) in
+          let j : bitCount 1 + bitCount m ≤ f .k = omega arith in
+          (sym (holds-floating f m 1 n _ _ refl refl) ∙ le-leb _ _ i, sym (holds-floating f 1 m n _ _ refl refl) ∙ le-leb _ _ j)
 
-      floating : (f .kind ≡ 1 → ⊥) → (holds f (2 ^ (f .k - 1) - 1) one ≡ true) × (holds f one (2 ^ (f .k - 1) - 1) ≡ true)
-      floating n =
-          let m : ℕ = 2 ^ (f .k - 1) - 1 in
-          let a : bitCount m ≤ f .k - 1 = bit-count-le m (f .k - 1) (omega (arith, k)) (omega (arith, pow-pos (f .k - 1))) in
-          let b : bitCount one ≤ 1 = bit-count-le one 1 (omega arith) (omega arith) in
-          let i : bitCount m + bitCount one ≤ f .k = omega (arith, k) in
-          let j : bitCount one + bitCount m ≤ f .k = omega arith in
-          (sym (holds-floating f m one n _ _ refl refl) ∙ le-leb _ _ i, sym (holds-floating f one m n _ _ refl refl) ∙ le-leb _ _ j)
-
-      go : Dec (f .kind ≡ 1) → (holds f (largestNumerator f) one ≡ true) × (holds f one (largestDenominator f) ≡ true)
-      go (yes e) = rw (eq-eqb _ _ e) (fixed e)
-      go (no n) = rw (ne-eqb _ _ n) (floating n)
-
-  pub largest-numerator-held : holds f (largestNumerator f) 1 ≡ true
-  largest-numerator-held = largest-beside 1 (omega arith) .0
-
-  pub largest-denominator-held : holds f 1 (largestDenominator f) ≡ true
-  largest-denominator-held = largest-beside 1 (omega arith) .1
-
-  pub largest-most : (r s : ℕ) → holds f r s ≡ true → (r ≤ largestNumerator f) × (s ≤ largestDenominator f)
-  unfolding largestNumerator largestDenominator
+  pub largest-most : (r s : ℕ) → holds f r s ≡ true → (r ≤ largestPart f) × (s ≤ largestPart f)
   largest-most r s l = go (ℕ-discrete (f .kind) 1)
     where
       below : (m n : ℕ) → bitCount m + bitCount n ≤ f .k → m ≤ 2 ^ (f .k - 1) - 1
@@ -259,37 +244,28 @@ module _ (f : Format) (h : known f ≡ true) where
           let j : bitCount m ≤ f .k - 1 = omega (arith, bit-count-pos n) in
           omega (arith, bit-count-lt m, pow-mono j)
 
-      go : Dec (f .kind ≡ 1) → (r ≤ largestNumerator f) × (s ≤ largestDenominator f)
-      go (yes e) = let b = fixed-holds f r s e l in rw (eq-eqb _ _ e) (omega arith, omega arith)
+      go : Dec (f .kind ≡ 1) → (r ≤ largestPart f) × (s ≤ largestPart f)
+      go (yes e) = omega (arith, fixed-holds f r s e l, largest-fixed f e _ refl)
       go (no n) =
           let b = floating-holds f r s n l in
           let c : bitCount s + bitCount r ≤ f .k = omega arith in
-          rw (ne-eqb _ _ n) (below r s b, below s r c)
+          omega (arith, below r s b, below s r c, largest-floating f n _ refl)
+
+  -- it takes at most k bits, and at most 31
+  pub largest-below : (largestPart f < 2 ^ f .k) × (largestPart f < 2 ^ 31)
+  largest-below = go (ℕ-discrete (f .kind) 1)
+    where
+      go : Dec (f .kind ≡ 1) → (largestPart f < 2 ^ f .k) × (largestPart f < 2 ^ 31)
+      go (yes e) = omega (arith, largest-fixed f e _ refl, pow-pos (f .k), pow-mono (fixed-k f h e))
+      go (no n) =
+          let i : f .k - 1 ≤ 31 = omega (arith, known-k f h) in
+          let j : f .k - 1 ≤ f .k = omega arith in
+          omega (arith, largest-floating f n _ refl, pow-pos (f .k - 1), pow-mono i, pow-mono j)
 
   -- no part takes more than 31 bits
   pub small-parts : (r s : ℕ) → holds f r s ≡ true → (r < 2 ^ 31) × (s < 2 ^ 31)
-  unfolding largestNumerator largestDenominator
-  small-parts r s l = go (ℕ-discrete (f .kind) 1)
-    where
-      most : (r ≤ largestNumerator f) × (s ≤ largestDenominator f)
-      most = largest-most r s l
-
-      go : Dec (f .kind ≡ 1) → (r < 2 ^ 31) × (s < 2 ^ 31)
-      go (yes e) =
-          let b : (r ≤ 2 ^ f .k - 1) × (s ≤ 2 ^ f .k - 1) = rw (eq-eqb _ _ e) at most in
-          omega (arith, pow-pos (f .k), pow-mono (fixed-k f h e))
-      go (no n) =
-          let b : (r ≤ 2 ^ (f .k - 1) - 1) × (s ≤ 2 ^ (f .k - 1) - 1) = rw (ne-eqb _ _ n) at most in
-          let i : f .k - 1 ≤ 31 = omega (arith, known-k f h) in
-          omega (arith, pow-pos (f .k - 1), pow-mono i)
+  small-parts r s l = omega (arith, largest-most r s l, largest-below)
 
   -- a denominator takes at most k bits
   pub denominator-below : (r s : ℕ) → holds f r s ≡ true → s < 2 ^ f .k
-  denominator-below r s l = go (ℕ-discrete (f .kind) 1)
-    where
-      go : Dec (f .kind ≡ 1) → s < 2 ^ f .k
-      go (yes e) = fixed-holds f r s e l .1
-      go (no n) =
-          let b = floating-holds f r s n l in
-          let i : bitCount s ≤ f .k = omega arith in
-          omega (arith, bit-count-lt s, pow-mono i)
+  denominator-below r s l = omega (arith, largest-most r s l, largest-below)

@@ -46,9 +46,6 @@ holds f r s =
     if isFixed f then leb r (2 ^ f .k - 1) && leb s (2 ^ f .k - 1)
     else leb (bitCount r + bitCount s) (f .k)
 
--- The largest parts of the pairs that it holds.
-unfoldable pub largestNumerator : Format → ℕ
-largestNumerator f = if isFixed f then 2 ^ f .k - 1 else 2 ^ (f .k - 1) - 1
-
-unfoldable pub largestDenominator : Format → ℕ
-largestDenominator f = if isFixed f then 2 ^ f .k - 1 else 2 ^ (f .k - 1) - 1
+-- The largest part of a held pair: its numerator (1/0 aside) and its denominator have one largest value.
+unfoldable pub largestPart : Format → ℕ
+largestPart f = if isFixed f then 2 ^ f .k - 1 else 2 ^ (f .k - 1) - 1

@@ -3,7 +3,7 @@ ghost use mathlib.Core.Path.{_≡_};
 ghost use mathlib.Core.Bool.{true};
 ghost use Prim.Native.Nat.{_≤_};
 ghost use Rattle.slash.specs.Answers.{outcome, madeOutcome};
-ghost use Rattle.slash.specs.Formats.{known, kFits, makeFormat, ofKnown, slashBits, widthOf, largestNumerator, largestDenominator};
+ghost use Rattle.slash.specs.Formats.{known, kFits, makeFormat, ofKnown, slashBits, widthOf, largestPart};
 use crate::answer::Answer;
 use crate::answer::Stop;
 use crate::bits::bit_count;
@@ -57,7 +57,7 @@ impl Format {
 
     // The largest numerator of a pair that the format holds, 1/0 aside.
     pub fn largest_numerator(self) -> Answer
-        ensures { λ r. ⌜ outcome r ≡ ofKnown self (largestNumerator self) ⌝ }
+        ensures { λ r. ⌜ outcome r ≡ ofKnown self (largestPart self) ⌝ }
     {
         if self.is_known() {
             Answer::Done(self.largest_part())
@@ -68,7 +68,7 @@ impl Format {
 
     // The largest denominator of a pair that the format holds.
     pub fn largest_denominator(self) -> Answer
-        ensures { λ r. ⌜ outcome r ≡ ofKnown self (largestDenominator self) ⌝ }
+        ensures { λ r. ⌜ outcome r ≡ ofKnown self (largestPart self) ⌝ }
     {
         if self.is_known() {
             Answer::Done(self.largest_part())
@@ -111,7 +111,7 @@ impl Format {
     // all but one of the k bits for the other.
     fn largest_part(self) -> u64
         requires { ⌜ known self ≡ true ⌝ }
-        ensures { λ r. ⌜ (r ≡ largestNumerator self) × (r ≡ largestDenominator self) ⌝ }
+        ensures { λ r. ⌜ r ≡ largestPart self ⌝ }
     {
         if self.kind == Format::FIXED {
             power(self.k) - 1

@@ -18,7 +18,7 @@ plain-requires c κs = search needs
 
 returns : tie.Need-returns
 returns c =
-    ap done (c .largest-part .ensures .0) ∙ of-known _ _ (sym (c .before .before .is-known .ensures) ∙ c .before .if1 .taken)
+    ap done (c .largest-part .ensures) ∙ of-known _ _ (sym (c .before .before .is-known .ensures) ∙ c .before .if1 .taken)
 
 returns-2 : tie.Need-returns-2
 returns-2 c =
