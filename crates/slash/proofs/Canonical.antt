@@ -11,11 +11,10 @@ use native.Mathlib.Omega.{arith}
 use native.Mathlib.Decide.{ℕ-discrete}
 use native.Mathlib.Nat.{eq-one-of-dvd-one}
 use borrow.Author.Tests.{ne-eqb}
-use Rattle.convergents.specs.Pairs.{Pair, pair, miss, differs}
+use Rattle.convergents.specs.Pairs.{Pair, pair, miss}
 use Rattle.convergents.specs.Rounding.{held, round}
 use Rattle.convergents.proofs.Optimal.{held-is, one-held}
-use Rattle.convergents.proofs.Theorem.{round-best, round-lowest, round-held, round-exact}
-use Rattle.convergents.proofs.Loop.{differs-not}
+use Rattle.convergents.proofs.Theorem.{round-best, round-lowest, round-held}
 use Rattle.slash.specs.Answers.{stop, done}
 use Rattle.slash.specs.Formats.{known, holds}
 use Rattle.slash.specs.Words.{numberOf, readWord, pairWord, nanWord, wordFor, isOverZero, writeNumber, valueOf}
@@ -27,23 +26,29 @@ use Rattle.slash.specs.declared.number.Value.the-variants.{Fraction, Zer
 use Rattle.slash.specs.declared.number.Number.{Number}
 use Rattle.slash.proofs.AnswerLaws.{done-inj, no-stop}
 use Rattle.slash.proofs.FormatLaws.{format-limit}
+use Rattle.slash.proofs.RoundingLaws.{held-miss, held-exact}
 use Rattle.slash.proofs.RoundTrip.{Proper, value-infinity, value-zero, value-fraction, Says, says-read, pair-says, nan-says}
 use Rattle.slash.proofs.WordLaws.{checked-known, checked-read, read-checked}
 use Rattle.slash.proofs.WriteLaws.{lowest-proper, zero-held, over-some, write-unknown, write-over-zero, write-done}
 use Rattle.slash.proofs.Recompose.{Fractional, fractional}
 
 module _ (f : Format) (h : known f ≡ true) where
-  -- a held fraction in lowest terms is rounded to itself, exactly, so that its own parts are written
+  -- a held fraction is rounded to its own value, so that its mark stays
+  rounded-word : (a : Bool) (p : Parts) → HeldParts f p
+      → wordFor f a (Fraction p) ≡ pairWord f (p .negative) a (round (holds f) (p .numerator) (p .denominator))
+  unfolding wordFor
+  rounded-word a p q = rw (held-exact f h (p .numerator) (p .denominator) (q .some-denominator) (q .holds-it), or-false a) refl
+
+  -- and one in lowest terms to itself, so that its own parts are written
   fraction-word : (a : Bool) (p : Parts) → HeldParts f p → Lowest (p .numerator) (p .denominator)
       → wordFor f a (Fraction p) ≡ pairWord f (p .negative) a (pair (p .numerator) (p .denominator))
-  unfolding wordFor Lowest
+  unfolding Lowest
   fraction-word a p q low =
       let n : ℕ = p .numerator in
       let d : ℕ = p .denominator in
       let l : held (holds f) (pair n d) ≡ true = held-is (holds f) n d (q .some-denominator) ∙ q .holds-it in
       let r : round (holds f) n d ≡ pair n d = round-held (holds f) (format-limit f h) n d (q .some-denominator) l low in
-      let m : differs n d (pair n d) ≡ false = sym (differs-not n d (pair n d) (omega arith)) in
-      rw (r, m, or-false a) refl
+      rounded-word a p q ∙ ap (pairWord f (p .negative) a) r
 
   -- a held number is no fraction over 0
   pub held-over : (v : Value) → HeldValue f v → isOverZero v ≡ false
@@ -98,9 +103,7 @@ module _ (f : Format) (h : known f ≡ true) where
     lowest = record { negative = p .negative; numerator = R .numerator; denominator = R .denominator }
 
     rounded-exact : miss N D R ≡ 0
-    rounded-exact =
-        round-exact (holds f) (format-limit f h) N D (q .some-denominator) (pair N D)
-        (held-is (holds f) N D (q .some-denominator) ∙ q .holds-it) (omega arith)
+    rounded-exact = held-miss f h N D (q .some-denominator) (q .holds-it)
 
     -- neither part of it is 0
     rounded-some : (1 ≤ R .numerator) × (1 ≤ R .denominator)
@@ -140,12 +143,6 @@ module _ (f : Format) (h : known f ≡ true) where
               ∙ round-best (holds f) (format-limit f h) N D (q .some-denominator) .isHeld;
         }
 
-    rounded-word : (a : Bool) → wordFor f a (Fraction p) ≡ pairWord f (p .negative) a R
-    unfolding wordFor
-    rounded-word a =
-        let m : differs N D R ≡ false = sym (differs-not N D R rounded-exact) in
-        rw (m, or-false a) refl
-
     fraction-back : (a : Bool) → WrittenBack f (record { value = Fraction p; approximate = a })
     unfolding Lowest HeldValue Reduced SameNumber SameValue
     fraction-back a =
@@ -156,7 +153,7 @@ module _ (f : Format) (h : known f ≡ true) where
         let w : ℕ = pairWord f (p .negative) a R in
         record {
           word = w;
-          written = held-written x q ∙ ap done (rounded-word a);
+          written = held-written x q ∙ ap done (rounded-word a p q);
           number = y;
           read = read-written y c w (held-written y lowest-held ∙ ap done (fraction-word a lowest lowest-held low));
           canonical = c;

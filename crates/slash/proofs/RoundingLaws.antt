@@ -1,17 +1,21 @@
 -- Laws of rounding into a format. Assumes nothing.
-use mathlib.Core.Path.{_≡_, refl, ap, _∙_}
+use mathlib.Core.Path.{_≡_, refl, sym, ap, _∙_}
 use mathlib.Core.Bool.{Bool, true, false}
-use Prim.Native.Nat.{ℕ}
+use Prim.Native.Nat.{ℕ, _≤_}
+use native.Mathlib.Omega.{arith}
 use borrow.Author.Tests.{eq-eqb, ne-eqb}
-use Rattle.convergents.specs.Pairs.{Pair, pair, differs}
+use Rattle.convergents.specs.Pairs.{Pair, pair, miss, differs}
 use Rattle.convergents.specs.Rounding.{round}
 use Rattle.convergents.specs.Best.{Best}
-use Rattle.convergents.proofs.Loop.{Rounds}
+use Rattle.convergents.proofs.Optimal.{held-is}
+use Rattle.convergents.proofs.Theorem.{round-exact}
+use Rattle.convergents.proofs.Loop.{Rounds, differs-not}
 use Rattle.slash.specs.Answers.{stop, done}
 use Rattle.slash.specs.Formats.{known, holds}
 use Rattle.slash.specs.Rounding.{rounded, roundRatio}
 use Rattle.slash.specs.declared.format.Format.{Format}
 use Rattle.slash.specs.declared.rounding.Rounded.{Rounded}
+use Rattle.slash.proofs.FormatLaws.{format-limit}
 
 module _ (f : Format) (N D p q : ℕ) (a : Bool) (w : Rounds (holds f) N D (pair p q) a) where
   parts : (x : Pair) → pair p q ≡ x → a ≡ differs N D x
@@ -21,8 +25,15 @@ module _ (f : Format) (N D p q : ℕ) (a : Bool) (w : Rounds (holds f) N D (pair
 
   -- what the loop comes to
   pub rounds-is : (record { numerator = p; denominator = q; approximate = a } ≡ rounded f N D) × Best (holds f) N D (pair p q)
-  unfolding rounded
   rounds-is = (parts (round (holds f) N D) (w .is) (w .mark ∙ ap (differs N D) (w .is)), w .best)
+
+-- a held pair is rounded to its own value, so that rounding doesn't mark it
+module _ (f : Format) (h : known f ≡ true) (n d : ℕ) (l : 1 ≤ d) (e : holds f n d ≡ true) where
+  pub held-miss : miss n d (round (holds f) n d) ≡ 0
+  held-miss = round-exact (holds f) (format-limit f h) n d l (pair n d) (held-is (holds f) n d l ∙ e) (omega arith)
+
+  pub held-exact : rounded f n d .approximate ≡ false
+  held-exact = sym (differs-not n d (round (holds f) n d) held-miss)
 
 -- the answers of `round`
 module _ (f : Format) (N D : ℕ) where

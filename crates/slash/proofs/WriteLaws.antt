@@ -88,7 +88,7 @@ module _ (f : Format) (s a : Bool) (n d w : ℕ) where
 
   pub parts-rounded : (d ≡ 0 → ⊥) → (r : Rounded) → r ≡ rounded f n d → (m : Bool) → m ≡ (a || r .approximate)
       → w ≡ pairWord f s m (pair (r .numerator) (r .denominator)) → w ≡ partsWord f s a n d
-  unfolding wordFor rounded
+  unfolding wordFor
   parts-rounded z r re m me we = rw (we, me, re) (sym (parts-some z))
 
 -- every value is written by its parts

@@ -10,7 +10,7 @@ use Rattle.slash.specs.declared.format.Format.{Format}
 use Rattle.slash.specs.declared.rounding.Rounded.{Rounded}
 
 -- The last convergent of N/D that the format holds, marked if its value isn't N/D.
-unfoldable pub rounded : Format → ℕ → ℕ → Rounded
+abbrev pub rounded : Format → ℕ → ℕ → Rounded
 rounded f N D =
     let x : Pair = round (holds f) N D in
     record { numerator = x .numerator; denominator = x .denominator; approximate = differs N D x }

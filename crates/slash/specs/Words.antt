@@ -3,17 +3,18 @@ use Prim.Native.Nat.{ℕ, _+_, _-_, _*_, _/_, _%_, _^_}
 use mathlib.Core.Bool.{Bool, true, false, not, _&&_, _||_}
 use lib.Dec.{leb, eqb}
 use Rattle.convergents.specs.Choice.{if_then_else_}
-use Rattle.convergents.specs.Pairs.{Pair, pair, differs}
-use Rattle.convergents.specs.Rounding.{round}
+use Rattle.convergents.specs.Pairs.{Pair, pair}
 use Rattle.convergents.specs.Best.{Best}
 use Rattle.slash.specs.Answers.{Outcome, stop, done, _then_}
 use Rattle.slash.specs.Bits.{bitCount, bits, bit, bitOf, fields}
 use Rattle.slash.specs.Formats.{isFixed, kFits, whenKnown, slashBits, widthOf, holds}
+use Rattle.slash.specs.Rounding.{rounded}
 use Rattle.slash.specs.declared.format.Format.{Format}
 use Rattle.slash.specs.declared.number.Parts.{Parts}
 use Rattle.slash.specs.declared.number.Value.{Value}
 use Rattle.slash.specs.declared.number.Value.the-variants.{Fraction, Zero, Infinity, NotANumber}
 use Rattle.slash.specs.declared.number.Number.{Number}
+use Rattle.slash.specs.declared.rounding.Rounded.{Rounded}
 
 -- ---- reading
 
@@ -111,12 +112,12 @@ pairWord f s a x =
 unfoldable pub nanWord : Format → ℕ
 nanWord f = if isFixed f then 0 else floatingNan (f .k)
 
--- The canonical word of a value and a mark: a fraction N/D is rounded into the format, and is marked if it was or rounding changed its
--- value; not-a-number has no mark.
+-- The canonical word of a value and a mark: a fraction N/D is rounded into the format, and is marked if it was or rounding marks it;
+-- not-a-number has no mark.
 unfoldable pub wordFor : Format → Bool → Value → ℕ
 wordFor f a (Fraction p) =
-    let x : Pair = round (holds f) (p .numerator) (p .denominator) in
-    pairWord f (p .negative) (a || differs (p .numerator) (p .denominator) x) x
+    let x : Rounded = rounded f (p .numerator) (p .denominator) in
+    pairWord f (p .negative) (a || x .approximate) (pair (x .numerator) (x .denominator))
 wordFor f a (Zero s) = pairWord f s a (pair 0 1)
 wordFor f a (Infinity s) = pairWord f s a (pair 1 0)
 wordFor f a NotANumber = nanWord f

@@ -15,19 +15,16 @@ use mir.Syntax.{w64}
 use mir.Val.{Fits, SFits}
 use borrow.Author.Tests.{eq-eqb, ne-eqb, lt-leb}
 use Rattle.convergents.specs.Choice.{if_then_else_}
-use Rattle.convergents.specs.Pairs.{pair, differs}
-use Rattle.convergents.specs.Rounding.{Limit, round}
-use Rattle.convergents.proofs.Optimal.{held-is}
-use Rattle.convergents.proofs.Theorem.{round-exact}
-use Rattle.convergents.proofs.Loop.{differs-not}
 use Rattle.slash.specs.Answers.{Outcome, stop, done, _then_, outcome, wordIn, WhenDone}
 use Rattle.slash.specs.Bits.{bit, bitOf, bitCount}
 use Rattle.slash.specs.Formats.{known, ofKnown, widthOf, holds}
+use Rattle.slash.specs.Rounding.{rounded}
 use Rattle.slash.specs.Words.{numberOf, numberIn, checkWord, readWord, wordFor, isNan, isOverZero, writeNumber, BestWord}
 use Rattle.slash.specs.Canonical.{HeldParts, HeldValue, CanonicalWord}
 use Rattle.slash.proofs.AnswerLaws.{no-stop, when-checked}
 use Rattle.slash.proofs.BitLaws.{one-shl, pow-next, bit-true, bit-false}
-use Rattle.slash.proofs.FormatLaws.{of-known, known-k, slash-bits-pos, width-fixed, width-floating, width-range, format-limit, small-parts, fixed-holds, holds-both, holds-floating, floating-holds}
+use Rattle.slash.proofs.FormatLaws.{of-known, known-k, slash-bits-pos, width-fixed, width-floating, width-range, format-limit, small-parts, fixed-holds, holds-both, holds-floating}
+use Rattle.slash.proofs.RoundingLaws.{held-exact}
 use Rattle.slash.proofs.WordLaws.{checked-known, checked-number, checked-read}
 use Rattle.slash.proofs.WriteLaws.{write-done, word-best}
 use Rattle.slash.proofs.Canonical.{read-known, read-held, written-canonical}
@@ -330,11 +327,6 @@ module _ (f : Format) (code w : ℕ) where
 -- ---- what always fits
 
 module _ (f : Format) (h : known f ≡ true) where
-  -- a held pair is rounded to its own value
-  exact-held : (n d : ℕ) → 1 ≤ d → holds f n d ≡ true → differs n d (round (holds f) n d) ≡ false
-  exact-held n d l e =
-      sym (differs-not n d (round (holds f) n d) (round-exact (holds f) (format-limit f h) n d l (pair n d) (held-is (holds f) n d l ∙ e) (omega arith)))
-
   -- a format that holds n/d holds d/n
   holds-turned : (n d : ℕ) → holds f n d ≡ true → holds f d n ≡ true
   holds-turned n d e = go (ℕ-discrete (f .kind) 1)
@@ -344,8 +336,8 @@ module _ (f : Format) (h : known f ≡ true) where
       go (no k) = sym (holds-floating f d n k (bitCount d) (bitCount n) refl refl) ∙ ap (λ (m : ℕ). leb m (f .k)) (add-comm (bitCount d) (bitCount n)) ∙ holds-floating f n d k (bitCount n) (bitCount d) refl refl ∙ e
 
   module _ (p : Parts) (q : HeldParts f p) where
-    smaller-held : (m c : ℕ) → m ≤ p .numerator → 1 ≤ c → c ≤ p .denominator → differs m c (round (holds f) m c) ≡ false
-    smaller-held m c a l b = exact-held m c l (format-limit f h .downward (p .numerator) (p .denominator) m c (q .holds-it) a l b)
+    smaller-held : (m c : ℕ) → m ≤ p .numerator → 1 ≤ c → c ≤ p .denominator → rounded f m c .approximate ≡ false
+    smaller-held m c a l b = held-exact f h m c l (format-limit f h .downward (p .numerator) (p .denominator) m c (q .holds-it) a l b)
 
     -- so are whole numbers of no larger size
     whole-held : (z : ℤ) → natAbs z ≤ natAbs (signedNumerator p) → ExactIn f (Fraction (whole z))
@@ -364,15 +356,15 @@ module _ (f : Format) (h : known f ≡ true) where
         let n : ℤ = signedOf (p .negative) (p .numerator) in
         let b = fixed-holds f (p .numerator) (p .denominator) k (q .holds-it) in
         let l : aboveFloor n (p .denominator) < p .denominator = above-lt n (p .denominator) (q .some-denominator) in
-        exact-held (aboveFloor n (p .denominator)) (p .denominator) (q .some-denominator) (holds-both f _ _ k (omega arith) (omega arith))
+        held-exact f h (aboveFloor n (p .denominator)) (p .denominator) (q .some-denominator) (holds-both f _ _ k (omega arith) (omega arith))
 
     parts-exact : (code : ℕ) → (code ≡ 6 → ExactIn f (Fraction (modParts p))) → ExactIn f (Fraction (exactParts code p))
     unfolding ExactIn floorParts ceilingParts reciprocalParts
     parts-exact code m =
-        by-code code p (λ r. ExactIn f (Fraction r)) (exact-held (p .denominator) (p .numerator) (q .some-numerator) (holds-turned (p .numerator) (p .denominator) (q .holds-it)))
+        by-code code p (λ r. ExactIn f (Fraction r)) (held-exact f h (p .denominator) (p .numerator) (q .some-numerator) (holds-turned (p .numerator) (p .denominator) (q .holds-it)))
         (whole-held (floorBy (signedNumerator p) (p .denominator)) (floor-size (signedNumerator p) (p .denominator)))
         (whole-held (ceilingBy (signedNumerator p) (p .denominator)) (ceiling-size (signedNumerator p) (p .denominator))) m
-        (exact-held (p .numerator) (p .denominator) (q .some-denominator) (q .holds-it))
+        (held-exact f h (p .numerator) (p .denominator) (q .some-denominator) (q .holds-it))
 
   value-exact : (code : ℕ) → (code ≡ 6 → ⊥) → (v : Value) → HeldValue f v → ExactIn f (exactUnary code v)
   unfolding HeldValue exactUnary ExactIn

@@ -5,11 +5,10 @@ use mathlib.Core.Bool.{Bool, false, not, _&&_}
 use lib.Dec.{leb, eqb}
 use lib.IntN.{ℤ, natAbs}
 use Rattle.convergents.specs.Choice.{if_then_else_}
-use Rattle.convergents.specs.Pairs.{differs}
-use Rattle.convergents.specs.Rounding.{round}
 use Rattle.slash.specs.Answers.{Outcome, stop, done, _then_}
 use Rattle.slash.specs.Bits.{bit, bitOf}
-use Rattle.slash.specs.Formats.{widthOf, holds, whenKnown}
+use Rattle.slash.specs.Formats.{widthOf, whenKnown}
+use Rattle.slash.specs.Rounding.{rounded}
 use Rattle.slash.specs.Signed.{signedOf}
 use Rattle.slash.specs.Words.{readWord, wordFor, isNan}
 use Rattle.slash.specs.declared.format.Format.{Format}
@@ -99,9 +98,9 @@ exactUnary code (Zero s) = exactZero code s
 exactUnary code (Infinity s) = exactInfinity code s
 exactUnary code NotANumber = NotANumber
 
--- A value that the format holds as it is: rounding doesn't change it, so that the mark is the operand's.
+-- A value that the format holds as it is: rounding doesn't mark it, so that the mark is the operand's.
 unfoldable pub ExactIn : Format → Value → Type 0
-ExactIn f (Fraction p) = differs (p .numerator) (p .denominator) (round (holds f) (p .numerator) (p .denominator)) ≡ false
+ExactIn f (Fraction p) = rounded f (p .numerator) (p .denominator) .approximate ≡ false
 ExactIn f (Zero s) = Unit {0}
 ExactIn f (Infinity s) = Unit {0}
 ExactIn f NotANumber = Unit {0}
