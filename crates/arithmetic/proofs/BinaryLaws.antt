@@ -199,14 +199,14 @@ over-either false v w a b = b
 
 over-sum : (x y : Operand) → Small x → Small y → isOverZero (sumOf x y) ≡ false
 unfolding sumOf sumParts isOverZero Small
-over-sum (Finite p) (Finite q) s t = some-not _ (one-le-mul (s .0) (t .0))
+over-sum (Finite p) (Finite q) s t = some-not _ (one-le-mul (s .some-denominator) (t .some-denominator))
 over-sum (Finite p) (Infinite b) s t = refl
 over-sum (Infinite a) (Finite q) s t = refl
 over-sum (Infinite a) (Infinite b) s t = over-either (differ a b) NotANumber (Infinity a) refl refl
 
 over-product : (c : Bool) (x y : Operand) → Small x → Small y → isOverZero (productOf c x y) ≡ false
 unfolding productOf productParts timesInfinity isOverZero Small
-over-product c (Finite p) (Finite q) s t = some-not _ (one-le-mul (s .0) (t .0))
+over-product c (Finite p) (Finite q) s t = some-not _ (one-le-mul (s .some-denominator) (t .some-denominator))
 over-product c (Finite p) (Infinite b) s t = over-either (eqb (p .numerator) 0) NotANumber (Infinity c) refl refl
 over-product c (Infinite a) (Finite q) s t = over-either (eqb (q .numerator) 0) NotANumber (Infinity c) refl refl
 over-product c (Infinite a) (Infinite b) s t = refl
@@ -220,7 +220,7 @@ over-divided c p q s = go (ℕ-discrete (q .numerator) 0) (ℕ-discrete (p .nume
     go (yes z) (no n) = ap isOverZero (sym (divided-infinity c p q z n))
     go (no n) y =
         let some : 1 ≤ q .numerator = omega arith in
-        ap isOverZero (sym (divided-some c p q n)) ∙ some-not _ (one-le-mul (s .0) some)
+        ap isOverZero (sym (divided-some c p q n)) ∙ some-not _ (one-le-mul (s .some-denominator) some)
 
 over-quotient : (c : Bool) (x y : Operand) → Small x → Small y → isOverZero (quotientOf c x y) ≡ false
 unfolding quotientOf isOverZero

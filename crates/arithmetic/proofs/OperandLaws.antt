@@ -7,10 +7,9 @@ use native.Mathlib.Nat.{mul-le-mul}
 use Rattle.slash.specs.Answers.{done}
 use Rattle.slash.specs.Formats.{known}
 use Rattle.slash.specs.Words.{numberOf, numberIn, checkWord, readWord}
-use Rattle.slash.specs.Canonical.{HeldParts, HeldValue}
-use Rattle.slash.proofs.FormatLaws.{small-parts}
+use Rattle.slash.specs.Canonical.{HeldValue}
 use Rattle.slash.proofs.WordLaws.{checked-number, checked-read}
-use Rattle.slash.proofs.Canonical.{read-known, read-held}
+use Rattle.slash.proofs.Canonical.{held-small, read-known, read-held}
 use Rattle.slash.specs.declared.format.Format.{Format}
 use Rattle.slash.specs.declared.number.Parts.{Parts}
 use Rattle.slash.specs.declared.number.Value.{Value}
@@ -39,10 +38,10 @@ pub products : {p q : Parts} → Small (Finite p) → Small (Finite q) → Produ
 unfolding Small
 products s t =
     record {
-      ad = product-lt (s .2) (t .1);
-      bc = product-lt (s .1) (t .2);
-      ac = product-lt (s .2) (t .2);
-      bd = product-lt (s .1) (t .1);
+      ad = product-lt (s .small-numerator) (t .small-denominator);
+      bc = product-lt (s .small-denominator) (t .small-numerator);
+      ac = product-lt (s .small-numerator) (t .small-numerator);
+      bd = product-lt (s .small-denominator) (t .small-denominator);
     }
 
 pub small-finite : {x : Operand} {p : Parts} → x ≡ Finite p → Small x → Small (Finite p)
@@ -50,21 +49,20 @@ small-finite e s = subst Small e s
 
 pub small-turned : (x : Operand) → Small x → Small (turned x)
 unfolding turned Small
-small-turned (Finite p) s = s
+small-turned (Finite p) s =
+    record { some-denominator = s .some-denominator; small-numerator = s .small-numerator; small-denominator = s .small-denominator }
 small-turned (Infinite t) s = tt
 
-held-small : (f : Format) → known f ≡ true → (v : Value) → HeldValue f v → Small (operandOf v)
+held-operand : (f : Format) → known f ≡ true → (v : Value) → HeldValue f v → Small (operandOf v)
 unfolding HeldValue Small operandOf
-held-small f h (Fraction p) q =
-    let b = small-parts f h (p .numerator) (p .denominator) (q .holds-it) in
-    (q .some-denominator, b .1, b .0)
-held-small f h (Zero s) q = (omega arith, omega arith, omega arith)
-held-small f h (Infinity s) q = tt
-held-small f h NotANumber q = tt
+held-operand f h (Fraction p) q = held-small f h p q
+held-operand f h (Zero s) q = record { some-denominator = omega arith; small-numerator = omega arith; small-denominator = omega arith }
+held-operand f h (Infinity s) q = tt
+held-operand f h NotANumber q = tt
 
 -- what a word says is small
 pub read-small : (f : Format) (w : ℕ) (x : Number) → readWord f w ≡ done x → Small (operandOf (x .value))
-read-small f w x r = let h = read-known f w x r in held-small f h (x .value) (read-held f h w x r)
+read-small f w x r = let h = read-known f w x r in held-operand f h (x .value) (read-held f h w x r)
 
 pub checked-small : (f : Format) (w : ℕ) → checkWord f w ≡ done tt → Small (operandOf (numberOf f w .value))
 checked-small f w c = read-small f w _ (checked-read f w c)

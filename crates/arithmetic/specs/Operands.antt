@@ -1,7 +1,6 @@
 -- Operands: a word's value as the operations take it.
-use Prim.Native.Nat.{ℕ, _≤_, _<_, _^_}
 use mathlib.Core.Bool.{Bool, false, not, Bool·beq}
-use Rattle.slash.specs.declared.number.Parts.{Parts}
+use Rattle.slash.specs.Steps.{SmallParts}
 use Rattle.slash.specs.declared.number.Value.{Value}
 use Rattle.slash.specs.declared.number.Value.the-variants.{Fraction, Zero, Infinity, NotANumber}
 use Rattle.arithmetic.specs.declared.operand.Operand.{Operand}
@@ -27,7 +26,7 @@ unfoldable pub turned : Operand → Operand
 turned (Finite p) = Finite (record { negative = not (p .negative); numerator = p .numerator; denominator = p .denominator })
 turned (Infinite s) = Infinite (not s)
 
--- The parts of an operand that was read from a word take at most 31 bits, so that no product of two leaves 64. (For the code alone.)
+-- An operand as it is read from a word. (For the code alone.)
 unfoldable pub Small : Operand → Type 0
-Small (Finite p) = (1 ≤ p .denominator) × (p .denominator < 2 ^ 31) × (p .numerator < 2 ^ 31)
+Small (Finite p) = SmallParts p
 Small (Infinite s) = Unit {0}

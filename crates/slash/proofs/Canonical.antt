@@ -16,8 +16,9 @@ use Rattle.convergents.specs.Rounding.{held, round}
 use Rattle.convergents.proofs.Optimal.{held-is, one-held}
 use Rattle.convergents.proofs.Theorem.{round-best, round-lowest, round-held}
 use Rattle.slash.specs.Answers.{stop, done}
-use Rattle.slash.specs.Formats.{known, holds}
-use Rattle.slash.specs.Words.{numberOf, readWord, pairWord, nanWord, wordFor, isOverZero, writeNumber, valueOf}
+use Rattle.slash.specs.Formats.{known, holds, largestPart}
+use Rattle.slash.specs.Steps.{SmallParts}
+use Rattle.slash.specs.Words.{numberOf, readWord, pairWord, nanWord, wordFor, isOverZero, writeNumber, valueOf, pairOf}
 use Rattle.slash.specs.Canonical.{Lowest, HeldParts, HeldValue, Reduced, Canonical, SameValue, SameNumber, Stores, CanonicalWord, WrittenBack}
 use Rattle.slash.specs.declared.format.Format.{Format}
 use Rattle.slash.specs.declared.number.Parts.{Parts}
@@ -25,7 +26,7 @@ use Rattle.slash.specs.declared.number.Value.{Value}
 use Rattle.slash.specs.declared.number.Value.the-variants.{Fraction, Zero, Infinity, NotANumber}
 use Rattle.slash.specs.declared.number.Number.{Number}
 use Rattle.slash.proofs.AnswerLaws.{done-inj, no-stop}
-use Rattle.slash.proofs.FormatLaws.{format-limit}
+use Rattle.slash.proofs.FormatLaws.{format-limit, largest-most, largest-some, largest-below}
 use Rattle.slash.proofs.RoundingLaws.{held-miss, held-exact}
 use Rattle.slash.proofs.RoundTrip.{Proper, value-infinity, value-zero, value-fraction, Says, says-read, pair-says, nan-says}
 use Rattle.slash.proofs.WordLaws.{checked-known, checked-read, read-checked}
@@ -185,16 +186,35 @@ module _ (f : Format) (h : known f ≡ true) where
         same = (tt, inl refl);
       }
 
+  -- ---- what is held has small parts
+
+  pub held-small : (p : Parts) → HeldParts f p → SmallParts p
+  held-small p q =
+      let b = largest-most f h (p .numerator) (p .denominator) (q .holds-it) in
+      let l = largest-below f h in
+      record { some-denominator = q .some-denominator; small-numerator = omega arith; small-denominator = omega arith }
+
+  -- of every value, 1/0 for infinity among them
+  pub held-most : (v : Value) → HeldValue f v → (pairOf v .numerator ≤ largestPart f) × (pairOf v .denominator ≤ largestPart f)
+  unfolding HeldValue pairOf
+  held-most (Fraction p) q = largest-most f h (p .numerator) (p .denominator) (q .holds-it)
+  held-most (Zero s) q = omega (arith, largest-some f h)
+  held-most (Infinity s) q = omega (arith, largest-some f h)
+  held-most NotANumber q = omega (arith, largest-some f h)
+
   -- ---- what was read
 
   module _ (w : ℕ) (x : Number) (r : readWord f w ≡ done x) where
     pub read-says : Says f w x
     read-says = let c = read-checked f w r in record { clear = c; number = done-inj (sym (checked-read f w c) ∙ r) }
 
+    -- a fraction's word is made again of its parts
+    again : (p : Parts) → x .value ≡ Fraction p → Fractional f w h (read-says .clear) p
+    again p e = fractional f w h (read-says .clear) p (ap (λ (y : Number). y .value) (read-says .number) ∙ e)
+
     of-value : (v : Value) → x .value ≡ v → HeldValue f v
     unfolding HeldValue
-    of-value (Fraction p) e =
-        fractional f w h (read-says .clear) p (ap (λ (y : Number). y .value) (read-says .number) ∙ e) .parts
+    of-value (Fraction p) e = again p e .parts
     of-value (Zero s) e = tt
     of-value (Infinity s) e = tt
     of-value NotANumber e = tt
@@ -206,15 +226,10 @@ module _ (f : Format) (h : known f ≡ true) where
     pub written-read : WrittenBack f x
     written-read = back (x .approximate) (x .value) read-held
 
-    -- a fraction's word is made again of its parts
-    module _ (p : Parts) (e : x .value ≡ Fraction p) where
-      again : Fractional f w h (read-says .clear) p
-      again = fractional f w h (read-says .clear) p (ap (λ (y : Number). y .value) (read-says .number) ∙ e)
-
-      lowest-kept : Lowest (p .numerator) (p .denominator) → wordFor f (x .approximate) (Fraction p) ≡ w
-      lowest-kept low =
-          let a : numberOf f w .approximate ≡ x .approximate = ap (λ (y : Number). y .approximate) (read-says .number) in
-          fraction-word (x .approximate) p (again .parts) low ∙ rw (← a) (again .again)
+    lowest-kept : (p : Parts) → x .value ≡ Fraction p → Lowest (p .numerator) (p .denominator) → wordFor f (x .approximate) (Fraction p) ≡ w
+    lowest-kept p e low =
+        let a : numberOf f w .approximate ≡ x .approximate = ap (λ (y : Number). y .approximate) (read-says .number) in
+        fraction-word (x .approximate) p (again p e .parts) low ∙ rw (← a) (again p e .again)
 
     -- what a canonical word says is written as that word
     stored : (v : Value) → x .value ≡ v → Stores f w (x .approximate) v → wordFor f (x .approximate) v ≡ w

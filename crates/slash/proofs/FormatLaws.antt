@@ -251,6 +251,9 @@ module _ (f : Format) (h : known f ≡ true) where
           let c : bitCount s + bitCount r ≤ f .k = omega arith in
           omega (arith, below r s b, below s r c, largest-floating f n _ refl)
 
+  pub largest-some : 1 ≤ largestPart f
+  largest-some = largest-most 1 1 (format-limit f h .one) .0
+
   -- it takes at most k bits, and at most 31
   pub largest-below : (largestPart f < 2 ^ f .k) × (largestPart f < 2 ^ 31)
   largest-below = go (ℕ-discrete (f .kind) 1)
@@ -261,11 +264,3 @@ module _ (f : Format) (h : known f ≡ true) where
           let i : f .k - 1 ≤ 31 = omega (arith, known-k f h) in
           let j : f .k - 1 ≤ f .k = omega arith in
           omega (arith, largest-floating f n _ refl, pow-pos (f .k - 1), pow-mono i, pow-mono j)
-
-  -- no part takes more than 31 bits
-  pub small-parts : (r s : ℕ) → holds f r s ≡ true → (r < 2 ^ 31) × (s < 2 ^ 31)
-  small-parts r s l = omega (arith, largest-most r s l, largest-below)
-
-  -- a denominator takes at most k bits
-  pub denominator-below : (r s : ℕ) → holds f r s ≡ true → s < 2 ^ f .k
-  denominator-below r s l = omega (arith, largest-most r s l, largest-below)

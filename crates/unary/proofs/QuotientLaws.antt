@@ -20,9 +20,9 @@ use Rattle.slash.specs.Formats.{known}
 use Rattle.slash.specs.Words.{partsOf, pairOf, numberOf, numberIn, checkWord, readWord}
 use Rattle.slash.specs.Canonical.{HeldParts, HeldValue}
 use Rattle.slash.proofs.AnswerLaws.{then-stop, then-done, done-inj}
-use Rattle.slash.proofs.FormatLaws.{known-k, small-parts, denominator-below}
+use Rattle.slash.proofs.FormatLaws.{largest-below}
 use Rattle.slash.proofs.WordLaws.{checked-known, checked-number, checked-read}
-use Rattle.slash.proofs.Canonical.{read-known, read-held}
+use Rattle.slash.proofs.Canonical.{held-most, read-known, read-held}
 use Rattle.slash.specs.declared.format.Format.{Format}
 use Rattle.slash.specs.declared.number.Number.{Number}
 use Rattle.slash.specs.declared.number.Parts.{Parts}
@@ -135,16 +135,6 @@ value-quotients NotANumber = no-quotient 0 0 refl
 
 -- ---- a word's quotients
 
--- the parts of a value that a word says take at most 31 bits
-small-pair : (f : Format) → known f ≡ true → (v : Value) → HeldValue f v → (pairOf v .numerator < 2 ^ 32) × (pairOf v .denominator < 2 ^ 32)
-unfolding HeldValue pairOf
-small-pair f h (Fraction p) q =
-    let b = small-parts f h (p .numerator) (p .denominator) (q .holds-it) in
-    (omega arith, omega arith)
-small-pair f h (Zero s) q = (omega arith, omega arith)
-small-pair f h (Infinity s) q = (omega arith, omega arith)
-small-pair f h NotANumber q = (omega arith, omega arith)
-
 -- a good word, whose parts are p
 module _ (f : Format) (w : ℕ) (c : checkWord f w ≡ done tt) (v : Value) (ve : v ≡ numberIn f w .value) (p : Parts) (pe : p ≡ partsOf v) where
   pair-is : pair (p .numerator) (p .denominator) ≡ pairOf (numberOf f w .value)
@@ -155,7 +145,7 @@ module _ (f : Format) (w : ℕ) (c : checkWord f w ≡ done tt) (v : Value) (ve 
   word-small =
       let h = checked-known f w c in
       subst (λ (q : Pair). (q .numerator < 2 ^ 32) × (q .denominator < 2 ^ 32)) (sym pair-is)
-      (small-pair f h (numberOf f w .value) (read-held f h w _ (checked-read f w c)))
+      (omega (arith, held-most f h (numberOf f w .value) (read-held f h w _ (checked-read f w c)), largest-below f h))
 
   pub quotients-done : (list : List ℕ) (o : Outcome ℕ) (after : List ℕ)
       → (o ≡ countIn list (quotients (p .numerator) (p .denominator))) × (after ≡ storedIn list (quotients (p .numerator) (p .denominator)))
@@ -201,14 +191,6 @@ few (suc j) n d h = go (ℕ-discrete d 0) (ℕ-discrete (n % d) 0) (few j (n % d
         let half : d % (n % d) < 2 ^ j = omega (arith, div-add-mod' d (n % d), mul-le-mul-right (n % d) q, pow-suc 2 j) in
         omega (arith, ih half, ap length (next-quotient n d one), ap length (next-quotient d (n % d) two))
 
--- the denominators of a format's words are below 2^k
-below-k : (f : Format) → known f ≡ true → (v : Value) → HeldValue f v → pairOf v .denominator < 2 ^ f .k
-unfolding HeldValue pairOf
-below-k f h (Fraction p) q = denominator-below f h (p .numerator) (p .denominator) (q .holds-it)
-below-k f h (Zero s) q = omega (arith, pow-mono (known-k f h .0))
-below-k f h (Infinity s) q = pow-pos (f .k)
-below-k f h NotANumber q = pow-pos (f .k)
-
 -- At most 2k quotients.
 pub quotients-at-most : (f : Format) (w : ℕ) (new : List ℕ) → wordQuotients f w ≡ done new → length new ≤ 2 * f .k
 unfolding wordQuotients
@@ -220,7 +202,8 @@ quotients-at-most f w new e = go (readWord f w) refl
         let h = read-known f w x r in
         let v : Value = x .value in
         let same : valueQuotients v ≡ new = done-inj (sym (ap (λ (o : Outcome Number). o then λ y. done (valueQuotients (y .value))) r) ∙ e) in
-        let b = few (f .k) (pairOf v .numerator) (pairOf v .denominator) (below-k f h v (read-held f h w x r)) in
+        let below : pairOf v .denominator < 2 ^ f .k = omega (arith, held-most f h v (read-held f h w x r), largest-below f h) in
+        let b = few (f .k) (pairOf v .numerator) (pairOf v .denominator) below in
         omega (arith, ap length (value-quotients v ∙ same))
 
 -- no word has more than 64

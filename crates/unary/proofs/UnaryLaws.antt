@@ -23,11 +23,11 @@ use Rattle.slash.specs.Words.{numberOf, numberIn, checkWord, readWord, wordFor,
 use Rattle.slash.specs.Canonical.{HeldParts, HeldValue, CanonicalWord}
 use Rattle.slash.proofs.AnswerLaws.{no-stop, when-checked}
 use Rattle.slash.proofs.BitLaws.{one-shl, pow-next, bit-true, bit-false}
-use Rattle.slash.proofs.FormatLaws.{of-known, known-k, slash-bits-pos, width-fixed, width-floating, width-range, format-limit, small-parts, fixed-holds, holds-both, holds-floating}
+use Rattle.slash.proofs.FormatLaws.{of-known, known-k, slash-bits-pos, width-fixed, width-floating, width-range, format-limit, fixed-holds, holds-both, holds-floating}
 use Rattle.slash.proofs.RoundingLaws.{held-exact}
 use Rattle.slash.proofs.WordLaws.{checked-known, checked-number, checked-read}
 use Rattle.slash.proofs.WriteLaws.{write-done, word-best}
-use Rattle.slash.proofs.Canonical.{read-known, read-held, written-canonical}
+use Rattle.slash.proofs.Canonical.{held-small, read-known, read-held, written-canonical}
 use Rattle.slash.specs.declared.format.Format.{Format}
 use Rattle.slash.specs.declared.number.Parts.{Parts}
 use Rattle.slash.specs.declared.number.Value.{Value}
@@ -35,7 +35,8 @@ use Rattle.slash.specs.declared.number.Value.the-variants.{Fraction, Zero, Infi
 use Rattle.slash.specs.declared.number.Number.{Number}
 use Rattle.slash.specs.Signed.{signedOf}
 use Rattle.unary.specs.Floor.{floorBy, ceilingBy, aboveFloor}
-use Rattle.unary.specs.Steps.{SmallParts, SmallValue, checkUnary}
+use Rattle.slash.specs.Steps.{SmallParts}
+use Rattle.unary.specs.Steps.{SmallValue, checkUnary}
 use Rattle.unary.specs.Unary.{signBit, withHighest, newSign, signTouched, whole, signedNumerator, reciprocalParts, floorParts, ceilingParts, modParts, exactParts, exactZero, exactInfinity, exactUnary, ExactIn, isUnary, unaryResult, unaryWord}
 use Rattle.unary.proofs.SignedLaws.{read, same, small-fits, of-read, signed-size, test-is, floor-size, ceiling-size, above-lt, above-le}
 
@@ -194,20 +195,7 @@ module _ (code : ℕ) (s : Bool) where
       infinity-case (no a) (yes b) = subst P (infinity-mod a b) n
       infinity-case (no a) (no b) = subst P (infinity-same a b) (i s)
 
--- ---- what was read is small, and its exact result is not over 0
-
-pub held-small : (f : Format) → known f ≡ true → (v : Value) → HeldValue f v → SmallValue v
-unfolding HeldValue SmallValue
-held-small f h (Fraction p) q =
-    let b = small-parts f h (p .numerator) (p .denominator) (q .holds-it) in
-    record { some-denominator = q .some-denominator; small-denominator = omega arith; small-numerator = omega arith }
-held-small f h (Zero s) q = tt
-held-small f h (Infinity s) q = tt
-held-small f h NotANumber q = tt
-
-pub small-fraction : {v : Value} {p : Parts} → v ≡ Fraction p → SmallValue v → SmallParts p
-unfolding SmallValue
-small-fraction e s = subst SmallValue e s
+-- ---- the exact result of what was read is not over 0
 
 over-exact : (f : Format) (code : ℕ) (v : Value) → HeldValue f v → isOverZero (exactUnary code v) ≡ false
 unfolding HeldValue isOverZero exactUnary reciprocalParts floorParts whole ceilingParts modParts
@@ -243,7 +231,8 @@ module _ (f : Format) (code w : ℕ) (c : checkWord f w ≡ done tt) (v : Value)
   held = read-held f (checked-known f w c) w X (checked-read f w c)
 
   pub good-small : SmallValue v
-  good-small = subst SmallValue (sym value-is) (held-small f (checked-known f w c) (X .value) held)
+  unfolding HeldValue
+  good-small p e = held-small f (checked-known f w c) p (subst (HeldValue f) (sym value-is ∙ e) held)
 
   test : {t : Bool} → b ≡ t → (leb code 2 && not (isNan (X .value))) ≡ t
   test e = ap (λ (u : Value). leb code 2 && not (isNan u)) (sym value-is) ∙ sym be ∙ e

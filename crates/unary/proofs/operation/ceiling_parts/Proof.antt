@@ -3,7 +3,7 @@ use Rattle.unary.proofs.UnaryLaws.{whole-small, whole-returns, numerato
 use Rattle.unary.proofs.SignedLaws.{ceiling-size}
 use Rattle.unary.specs.Floor.{ceilingBy}
 use Rattle.unary.specs.Unary.{ceilingParts}
-use mathlib.Core.Bool.{not}
+use native.Mathlib.Omega.{arith}
 use borrow.Author.Needs.{needs}
 use Rattle.unary.proofs.operation.ceiling_parts.Statement.{statement}
 use Rattle.unary.proofs.operation.ceiling_parts.Tie as tie
@@ -14,7 +14,7 @@ to-signed-requires c κs = search needs
 ceiling-requires : tie.Need-ceiling-requires
 ceiling-requires c κs =
     let pre = c .before .pre in
-    (numerator-small _ pre _ (record { sfits = c .to-signed .ok }) (c .to-signed .ensures), pre .some-denominator, pre .small-denominator)
+    (numerator-small _ pre _ (record { sfits = c .to-signed .ok }) (c .to-signed .ensures), pre .some-denominator, omega (arith, pre .small-denominator))
 
 whole-parts-requires : tie.Need-whole-parts-requires
 whole-parts-requires c κs =

@@ -1,5 +1,4 @@
 -- `unary::operation::exact_value` meets its contract. Assumes nothing.
-use Rattle.unary.proofs.UnaryLaws.{small-fraction}
 use Rattle.unary.specs.Unary.{exactUnary}
 use Rattle.slash.proofs.AnswerLaws.{at-one}
 use Rattle.slash.specs.declared.number.Value.the-variants.{Fraction}
@@ -13,7 +12,7 @@ enum-known-v : tie.Need-enum-known-v
 enum-known-v c = search needs
 
 exact-parts-requires : tie.Need-exact-parts-requires
-exact-parts-requires c κs = small-fraction (c .before .v .given .1) (c .before .before .before .pre)
+exact-parts-requires c κs = c .before .before .before .pre _ (c .before .v .given .1)
 
 enum-known-v-2 : tie.Need-enum-known-v-2
 enum-known-v-2 c = search needs
