@@ -1,5 +1,6 @@
--- Laws of outcomes, and of functions that go by cases. Assumes nothing.
+-- Laws of outcomes, of tests, and of functions that go by cases. Assumes nothing.
 use mathlib.Core.Path.{_≡_, refl, sym, ap, ap₂, _∙_, subst}
+use mathlib.Core.Bool.{Bool, true, false, _&&_, false≢true}
 use Prim.Native.Nat.{ℕ}
 use native.Mathlib.Omega.{arith}
 use Rattle.slash.specs.Answers.{Outcome, stop, done, _then_, wordIn, WhenDone, checkOutcome}
@@ -59,6 +60,11 @@ module _ (c : Outcome (Unit {0})) (v : ℕ) {o : Outcome ℕ} (e : (c then λ _.
       go : (d : Outcome (Unit {0})) → (done tt ≡ d → P v) → WhenDone (d then λ _. done v) P
       go (stop n p) g = tt
       go (done u) g = g refl
+
+-- both of two tests
+pub and-parts : (a b : Bool) → (a && b) ≡ true → (a ≡ true) × (b ≡ true)
+and-parts true b h = (refl, h)
+and-parts false b h = absurd (false≢true h)
 
 -- what a function F comes to at a value that the code knows by its case
 pub at-one : {A B : Type 0} (F : A → B) {x u : A} {r : B} → x ≡ u → r ≡ F u → r ≡ F x

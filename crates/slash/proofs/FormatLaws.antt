@@ -14,6 +14,7 @@ use Rattle.slash.specs.Answers.{stop, done}
 use Rattle.slash.specs.Bits.{bitCount}
 use Rattle.slash.specs.Formats.{isFixed, isFloating, kFits, known, ofKnown, makeFormat, slashBits, widthOf, holds, largestPart}
 use Rattle.slash.specs.declared.format.Format.{Format}
+use Rattle.slash.proofs.AnswerLaws.{and-parts}
 use Rattle.slash.proofs.BitLaws.{least-power, least-count, bit-count-lt, bit-count-le, bit-count-pos, bit-count-mono}
 
 -- ---- answers
@@ -36,10 +37,6 @@ unfolding makeFormat
 make-unknown kind k h = of-unknown _ _ h
 
 -- ---- what a known format says of its k
-
-and-parts : (a b : Bool) → (a && b) ≡ true → (a ≡ true) × (b ≡ true)
-and-parts true b h = (refl, h)
-and-parts false b h = let z : _≡_ {A = ℕ} 0 1 = cc in absurd (omega arith)
 
 -- the answers of `k_fits` and `is_known`
 module _ (f : Format) where

@@ -1,14 +1,12 @@
 -- Euclid's algorithm comes to the greatest common divisor. Assumes nothing.
-use mathlib.Core.Path.{_≡_, refl, sym, subst}
-use mathlib.Core.Bool.{Bool, true, false, _&&_}
+use mathlib.Core.Path.{_≡_, refl, sym, ap₂, _∙_, subst}
+use mathlib.Core.Bool.{Bool, true, false, _&&_, true≢false}
 use Prim.Native.Nat.{ℕ, zero, suc, _+_, _%_, _≤_, _∣_}
 use native.Mathlib.Omega.{arith}
 use native.Mathlib.Decide.{ℕ-discrete}
 use native.Mathlib.Nat.{dvd-refl, dvd-zero, eq-zero-of-zero-dvd, dvd-mod-iff, dvd-iff-mod-eq-zero, le-of-dvd}
 use borrow.Author.Tests.{eqb-true, eq-eqb}
-use Rattle.slash.specs.declared.number.Parts.{Parts}
-use Rattle.slash.specs.declared.number.Value.{Value}
-use Rattle.slash.specs.declared.number.Value.the-variants.{Fraction, Zero, Infinity, NotANumber}
+use Rattle.slash.proofs.AnswerLaws.{and-parts}
 use Rattle.unary.specs.Divisor.{divides, greatestFrom, gcdOf}
 
 -- ---- what the algorithm keeps
@@ -41,10 +39,6 @@ common-end {N} {D} {u} {v} c z =
     let w = c .up u (dvd-refl u) (subst (λ (m : ℕ). u ∣ m) (sym z) (dvd-zero u)) in
     record { left = w .0; right = w .1; greatest = λ g a b. c .down g a b .0 }
 
-both : (a b : Bool) → (a && b) ≡ true → (a ≡ true) × (b ≡ true)
-both true b h = (refl, h)
-both false b h = let z : _≡_ {A = ℕ} 0 1 = cc in absurd (omega arith)
-
 -- the test is divisibility
 module _ (g n : ℕ) where
   divides-is : divides g n ≡ true → g ∣ n
@@ -65,7 +59,7 @@ module _ (N D u : ℕ) (w : Greatest N D u) where
       pick : (b : Bool) → (divides (suc g) N && divides (suc g) D) ≡ b → (u ≤ g → greatestFrom g N D ≡ u)
           → elim b [ true ↦ suc g | false ↦ greatestFrom g N D ] ≡ u
       pick true t f =
-          let h = both _ _ t in
+          let h = and-parts _ _ t in
           let k : suc g ≤ u = le-of-dvd pos (w .greatest (suc g) (divides-is (suc g) N (h .0)) (divides-is (suc g) D (h .1))) in
           omega arith
       pick false t f = f (other (ℕ-discrete u (suc g)))
@@ -74,8 +68,7 @@ module _ (N D u : ℕ) (w : Greatest N D u) where
           other (yes e) =
               let a : divides (suc g) N ≡ true = is-divides (suc g) N (subst (λ (m : ℕ). m ∣ N) e (w .left)) in
               let b : divides (suc g) D ≡ true = is-divides (suc g) D (subst (λ (m : ℕ). m ∣ D) e (w .right)) in
-              let z : _≡_ {A = ℕ} 0 1 = cc in
-              absurd (omega arith)
+              absurd (true≢false (sym (ap₂ _&&_ a b) ∙ t))
           other (no n) = omega arith
 
   pub greatest-is : u ≡ gcdOf N D
