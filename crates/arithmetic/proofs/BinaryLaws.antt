@@ -13,7 +13,7 @@ use Rattle.slash.specs.Answers.{Outcome, stop, done, _then_, wordIn, WhenDone}
 use Rattle.slash.specs.Formats.{known}
 use Rattle.slash.specs.Signed.{signedOf}
 use Rattle.slash.specs.Words.{numberOf, numberIn, checkWord, readWord, isOverZero, writeNumber, BestWord, isNan}
-use Rattle.slash.proofs.AnswerLaws.{no-stop, when-checked}
+use Rattle.slash.proofs.AnswerLaws.{no-stop, some-not, when-checked}
 use Rattle.slash.proofs.WordLaws.{checked-known, checked-number}
 use Rattle.slash.proofs.WriteLaws.{write-done, word-best}
 use Rattle.slash.specs.Canonical.{CanonicalWord}
@@ -21,7 +21,7 @@ use Rattle.slash.proofs.Canonical.{written-canonical}
 use Rattle.slash.specs.declared.format.Format.{Format}
 use Rattle.slash.specs.declared.number.Parts.{Parts}
 use Rattle.slash.specs.declared.number.Value.{Value}
-use Rattle.slash.specs.declared.number.Value.the-variants.{Fraction, Zero, Infinity, NotANumber}
+use Rattle.slash.specs.declared.number.Value.the-variants.{Fraction, Infinity, NotANumber}
 use Rattle.slash.specs.declared.number.Number.{Number}
 use Rattle.arithmetic.specs.Operands.{operandOf, signOf, differ, turned, Small}
 use Rattle.arithmetic.specs.Binary.{sumSize, sumSign, sumParts, sumOf, timesInfinity, productParts, productOf, dividedBy, quotientOf, exactOf, exactValue, isBinary, combined, binaryWord}
@@ -188,9 +188,6 @@ module _ (code : ℕ) (v w : Value) (b : Bool) (be : b ≡ (isNan v || isNan w))
   exact-operands e x y xe ye r re = re ∙ rw (← be, e, xe, ye) refl
 
 -- ---- no exact result is over 0
-
-some-not : (m : ℕ) → 1 ≤ m → eqb m 0 ≡ false
-some-not m h = let z : m ≡ 0 → ⊥ = λ e. omega arith in ne-eqb _ _ z
 
 -- neither of two values is over 0, so what is picked isn't
 over-either : (c : Bool) (v w : Value) → isOverZero v ≡ false → isOverZero w ≡ false → isOverZero (if c then v else w) ≡ false

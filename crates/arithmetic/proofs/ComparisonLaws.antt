@@ -6,7 +6,7 @@ use native.Mathlib.Omega.{arith}
 use native.Mathlib.Decide.{ℕ-discrete, decLe}
 use lib.Dec.{eqb}
 use borrow.Author.Tests.{lt-ltb, le-ltb, eq-eqb, ne-eqb}
-use Rattle.slash.specs.Answers.{Outcome, stop, done, _then_}
+use Rattle.slash.specs.Answers.{stop, done}
 use Rattle.slash.specs.Words.{numberIn, checkWord, readWord, isNan}
 use Rattle.slash.proofs.WordLaws.{checked-number, checked-read}
 use Rattle.slash.proofs.AnswerLaws.{then-stop, then-done}

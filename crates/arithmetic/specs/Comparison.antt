@@ -6,7 +6,6 @@ use Rattle.convergents.specs.Choice.{if_then_else_}
 use Rattle.slash.specs.Answers.{Outcome, stop, done, _then_}
 use Rattle.slash.specs.Words.{readWord, isNan}
 use Rattle.slash.specs.declared.format.Format.{Format}
-use Rattle.slash.specs.declared.number.Parts.{Parts}
 use Rattle.slash.specs.declared.number.Value.{Value}
 use Rattle.arithmetic.specs.Operands.{operandOf, differ}
 use Rattle.arithmetic.specs.declared.ordering.Comparison.{Comparison}

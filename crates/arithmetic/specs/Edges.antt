@@ -1,9 +1,8 @@
 -- The paper's marked cases, as rows of one table.
 use Prim.Native.Nat.{ℕ, _*_}
-use mathlib.Core.Bool.{Bool, true, false, _&&_, not}
+use mathlib.Core.Bool.{Bool, true, false, _&&_, Bool·beq}
 use mathlib.Core.List.{List, [], _∷_}
 use lib.Dec.{eqb, ltb}
-use Rattle.convergents.specs.Choice.{if_then_else_}
 use Rattle.convergents.specs.Pairs.{pair, miss}
 use Rattle.slash.specs.Answers.{Outcome, stop, done}
 use Rattle.slash.specs.Formats.{holds}
@@ -12,7 +11,6 @@ use Rattle.slash.specs.Words.{writeNumber}
 use Rattle.arithmetic.specs.Binary.{binaryWord}
 use Rattle.slash.specs.declared.format.Format.{Format}
 use Rattle.slash.specs.declared.number.Value.the-variants.{Fraction}
-use Rattle.slash.specs.declared.number.Number.{Number}
 use Rattle.slash.specs.declared.rounding.Rounded.{Rounded}
 
 abbrev fixed : ℕ → Format
@@ -59,12 +57,9 @@ edges =
     writes (floating 26) 355 113 approximate 0x4c0058f1 ∷
     rounds (fixed 2) 6 23 1 3 approximate ∷ []
 
-unfoldable pub same : Bool → Bool → Bool
-same a b = if a then b else not b
-
 unfoldable pub isRounded : ℕ → ℕ → Bool → Outcome Rounded → Bool
 isRounded r s a (stop number place) = false
-isRounded r s a (done x) = eqb (x .numerator) r && eqb (x .denominator) s && same (x .approximate) a
+isRounded r s a (done x) = eqb (x .numerator) r && eqb (x .denominator) s && Bool·beq (x .approximate) a
 
 unfoldable pub isWord : ℕ → Outcome ℕ → Bool
 isWord w (stop number place) = false

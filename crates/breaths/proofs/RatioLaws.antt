@@ -1,6 +1,6 @@
 -- Ratios: durations, what is void, and that the word of a ratio from 0 to 1 is a fraction from 0 to 1. Assumes nothing.
 use mathlib.Core.Path.{_≡_, refl, sym, ap, _∙_, subst}
-use mathlib.Core.Bool.{Bool, true, false, _&&_, _||_, and-true, and-false}
+use mathlib.Core.Bool.{Bool, true, false, _&&_, _||_, and-true, and-false, true≢false}
 use mathlib.Core.Logic.{⊎-elim}
 use Prim.Native.Nat.{ℕ, zero, suc, _+_, _*_, _%_, _^_, _≤_, _<_}
 use native.Mathlib.Omega.{arith}
@@ -11,7 +11,7 @@ use borrow.Author.Tests.{eqb-true, eqb-false, leb-false, ltb-false, eq-eqb, ne-e
 use Rattle.convergents.specs.Pairs.{Pair, pair}
 use Rattle.convergents.specs.Rounding.{Limit, held}
 use Rattle.convergents.specs.Best.{Best}
-use Rattle.convergents.proofs.Optimal.{held-is}
+use Rattle.convergents.proofs.Optimal.{held-is, zero-held}
 use Rattle.slash.specs.Answers.{Outcome, done, outcome, WhenDone}
 use Rattle.slash.specs.Formats.{kFits, known, widthOf, holds}
 use Rattle.slash.specs.Words.{checkWord, isOverZero, isAbove, writeNumber, exactRatio, BestFor, BestWord}
@@ -20,7 +20,7 @@ use Rattle.slash.specs.declared.answer.Answer.{Answer}
 use Rattle.slash.specs.declared.answer.Answer.the-variants as Answer
 use Rattle.slash.specs.declared.answer.Stop.{Stop}
 use Rattle.slash.specs.declared.format.Format.{Format}
-use Rattle.slash.proofs.AnswerLaws.{done-inj, no-stop}
+use Rattle.slash.proofs.AnswerLaws.{done-inj, no-stop, some-not}
 use Rattle.slash.proofs.WordLaws.{read-checked, checked-below}
 use Rattle.slash.proofs.FormatLaws.{format-limit, fixed-holds}
 use Rattle.slash.proofs.WriteLaws.{write-done, word-best}
@@ -50,9 +50,8 @@ module _ (limit : ℕ → ℕ → Bool) (lim : Limit limit) (N D : ℕ) (pos : 1
   unfolding held
   finite r b =
       let one : r ≡ 1 = eqb-true r 1 (b .isHeld) in
-      let zero-held : held limit (pair 0 1) ≡ true = lim .downward 1 1 0 1 (lim .one) (omega arith) (omega arith) (omega arith) in
       let differ : pair 0 1 ≡ pair r 0 → ⊥ = λ e. let z : _≡_ {A = ℕ} 1 0 = ap (λ (x : Pair). x .denominator) e in omega arith in
-      ⊎-elim (λ h. omega (arith, ap (λ (x : ℕ). x * D) one)) (λ h. omega (arith, ap (λ (x : ℕ). x * D) one, h .0)) (b .better (pair 0 1) zero-held differ)
+      ⊎-elim (λ h. omega (arith, ap (λ (x : ℕ). x * D) one)) (λ h. omega (arith, ap (λ (x : ℕ). x * D) one, h .0)) (b .better (pair 0 1) (zero-held limit lim) differ)
 
   -- 1/1 does better than what is above 1
   below-one : (r s : ℕ) → 1 ≤ s → Best limit N D (pair r s) → r ≤ s
@@ -86,7 +85,7 @@ known-format = refl
 module _ (N D : ℕ) (pos : 1 ≤ D) where
   not-over : isOverZero (exactRatio N D .value) ≡ false
   unfolding isOverZero
-  not-over = ne-eqb D 0 (λ e. omega arith)
+  not-over = some-not D pos
 
   ratio-written : done (ratioWord N D) ≡ writeNumber format (exactRatio N D)
   unfolding ratioWord
@@ -147,7 +146,7 @@ module _ (r : Ratio) where
 -- ---- a breath
 
 or-false : (s t : Bool) → (s || t) ≡ false → (s ≡ false) × (t ≡ false)
-or-false true t e = let z : _≡_ {A = ℕ} 0 1 = cc in absurd (omega arith)
+or-false true t e = absurd (true≢false e)
 or-false false t e = (refl, e)
 
 module _ (b : Breath) where

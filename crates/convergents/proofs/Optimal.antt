@@ -1,8 +1,8 @@
 -- The state in which the rounding stops has the best pair. Assumes nothing.
 use Prim.Native.Nat.{ℕ, zero, suc, _+_, _*_, _/_, _%_, _≤_, _<_}
-use mathlib.Core.Path.{_≡_, refl, sym, ap, subst}
+use mathlib.Core.Path.{_≡_, refl, sym, ap, subst, _∙_}
 use mathlib.Core.Logic.{_⊎_, inl, inr, _≢_}
-use mathlib.Core.Bool.{Bool, true, false}
+use mathlib.Core.Bool.{Bool, true, false, true≢false}
 use borrow.Author.Tests.{eqb-true}
 use native.Mathlib.Omega.{arith}
 use native.Mathlib.Decide.{decLe, ℕ-discrete}
@@ -104,7 +104,7 @@ pub pair-path : {x y : Pair} → x .numerator ≡ y .numerator → x .denominato
 pair-path e f i = record { numerator = e i; denominator = f i }
 
 pub true-false : (b : Bool) → b ≡ true → b ≡ false → ⊥
-true-false b e f = let z : _≡_ {A = ℕ} 0 1 = cc in omega arith
+true-false b e f = true≢false (sym e ∙ f)
 
 -- The limit.
 module _ (holds : ℕ → ℕ → Bool) where
@@ -116,6 +116,9 @@ module _ (holds : ℕ → ℕ → Bool) where
   pub one-held : held holds (pair 1 0) ≡ true
   unfolding held
   one-held = refl
+
+  pub zero-held : Limit holds → held holds (pair 0 1) ≡ true
+  zero-held lim = held-is 0 1 (omega arith) ∙ lim .downward 1 1 0 1 (lim .one) (omega arith) (omega arith) (omega arith)
 
   -- a pair that is held: 1/0, or one that the limit holds
   cases : (r s : ℕ) → held holds (pair r s) ≡ true → ((r ≡ 1) × (s ≡ 0)) ⊎ ((1 ≤ s) × (holds r s ≡ true))

@@ -7,7 +7,7 @@ use mathlib.Core.List.{List, [], _∷_}
 use native.Mathlib.Omega.{arith}
 use native.Mathlib.Decide.{ℕ-discrete}
 use native.Mathlib.Nat.{mod-lt, zero-lt-suc, div-add-mod', dvd-mul-left}
-use Rattle.convergents.specs.Pairs.{Pair, pair, miss, Better}
+use Rattle.convergents.specs.Pairs.{Pair, pair, Lowest, miss, Better}
 use Rattle.convergents.specs.Convergents.{euclid, quotients, recurrence, convergents}
 use Rattle.convergents.specs.Rounding.{Limit, held, lastHeld, round, NoneHeld, HeldFirst, rest, more}
 use Rattle.convergents.specs.Best.{Best}
@@ -157,7 +157,7 @@ module _ (holds : ℕ → ℕ → Bool) (lim : Limit holds) (N D : ℕ) where
   before x (stopped {p₀} {q₀} i h l f) = (p₀, q₀, i .det)
 
   -- The rounding is in lowest terms: only 1 divides both its parts.
-  pub round-lowest : (g : ℕ) → g ∣ (round holds N D) .numerator → g ∣ (round holds N D) .denominator → g ≡ 1
+  pub round-lowest : Lowest (round holds N D .numerator) (round holds N D .denominator)
   round-lowest g h k =
       let w = before (round holds N D) round-last in
       coprime ((round holds N D) .numerator) ((round holds N D) .denominator) (w .0) (w .1) g (w .2) h k
@@ -205,7 +205,7 @@ module _ (holds : ℕ → ℕ → Bool) (lim : Limit holds) (N D : ℕ) (pos : 1
           (round-best holds lim N D pos .better y h (λ w. e (subst (λ (x : Pair). miss N D x ≡ 0) w z))))
 
   -- an exact rounding is N/D itself where N/D is in lowest terms
-  lowest-is : (x : Pair) → Last holds N D x → miss N D x ≡ 0 → ((g : ℕ) → g ∣ N → g ∣ D → g ≡ 1) → x ≡ pair N D
+  lowest-is : (x : Pair) → Last holds N D x → miss N D x ≡ 0 → Lowest N D → x ≡ pair N D
   lowest-is x (stopped {p₀} {q₀} {p} {q} {n} {d} i h l f) z low = absurd (omega (arith, miss-is i))
   lowest-is x (exact {p₀} {q₀} {p} {q} {n} {d} i h e) z low =
       let a : N ≡ p * n = omega (arith, i .numer, ap (λ (y : ℕ). p₀ * y) e) in
@@ -214,6 +214,6 @@ module _ (holds : ℕ → ℕ → Bool) (lim : Limit holds) (N D : ℕ) (pos : 1
       pair-path (omega (arith, ap (λ (y : ℕ). p * y) one)) (omega (arith, ap (λ (y : ℕ). q * y) one))
 
   -- A held pair in lowest terms is rounded to itself.
-  pub round-held : held holds (pair N D) ≡ true → ((g : ℕ) → g ∣ N → g ∣ D → g ≡ 1) → round holds N D ≡ pair N D
+  pub round-held : held holds (pair N D) ≡ true → Lowest N D → round holds N D ≡ pair N D
   round-held h low =
       lowest-is (round holds N D) (round-last holds lim N D) (round-exact (pair N D) h (omega arith)) low

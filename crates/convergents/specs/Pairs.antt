@@ -1,5 +1,5 @@
 -- Pairs r/s of whole numbers, how far a pair misses a ratio, and which of two does better.
-use Prim.Native.Nat.{ℕ, _+_, _-_, _*_, _<_}
+use Prim.Native.Nat.{ℕ, _+_, _-_, _*_, _<_, _∣_}
 use mathlib.Core.Path.{_≡_}
 use mathlib.Core.Logic.{_⊎_}
 use mathlib.Core.Bool.{Bool, not}
@@ -12,6 +12,10 @@ pub record Pair : Type 0 where
 
 abbrev pub pair : ℕ → ℕ → Pair
 pair r s = record { numerator = r; denominator = s }
+
+-- n/d is in lowest terms: only 1 divides both.
+abbrev pub Lowest : ℕ → ℕ → Type 0
+Lowest n d = (g : ℕ) → g ∣ n → g ∣ d → g ≡ 1
 
 -- The miss of r/s for N/D: the size of s times N less r times D. (Of the two differences one is 0.)
 abbrev pub miss : ℕ → ℕ → Pair → ℕ

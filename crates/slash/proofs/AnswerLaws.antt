@@ -1,8 +1,10 @@
 -- Laws of outcomes, of tests, and of functions that go by cases. Assumes nothing.
 use mathlib.Core.Path.{_≡_, refl, sym, ap, ap₂, _∙_, subst}
 use mathlib.Core.Bool.{Bool, true, false, _&&_, false≢true}
-use Prim.Native.Nat.{ℕ}
+use Prim.Native.Nat.{ℕ, _≤_}
 use native.Mathlib.Omega.{arith}
+use lib.Dec.{eqb}
+use borrow.Author.Tests.{ne-eqb}
 use Rattle.slash.specs.Answers.{Outcome, stop, done, _then_, wordIn, WhenDone, checkOutcome}
 use Rattle.slash.specs.declared.answer.Stop.{Stop}
 use Rattle.slash.specs.declared.reading.Checked.{Checked}
@@ -65,6 +67,9 @@ module _ (c : Outcome (Unit {0})) (v : ℕ) {o : Outcome ℕ} (e : (c then λ _.
 pub and-parts : (a b : Bool) → (a && b) ≡ true → (a ≡ true) × (b ≡ true)
 and-parts true b h = (refl, h)
 and-parts false b h = absurd (false≢true h)
+
+pub some-not : (m : ℕ) → 1 ≤ m → eqb m 0 ≡ false
+some-not m h = let z : m ≡ 0 → ⊥ = λ e. omega arith in ne-eqb _ _ z
 
 -- what a function F comes to at a value that the code knows by its case
 pub at-one : {A B : Type 0} (F : A → B) {x u : A} {r : B} → x ≡ u → r ≡ F u → r ≡ F x

@@ -11,8 +11,9 @@ use lib.Arith.{digits-lt, digits-div, digits-mod}
 use lib.Pow.{pow-pos, pow-mono, pow-lt, pow-add, shr-shr}
 use lib.Bits.{bitAnd, and-mask}
 use lib.Count.{leadingZeros, leading-length}
-use borrow.Author.Tests.{leb-true, leb-false, ne-eqb}
+use borrow.Author.Tests.{leb-true, leb-false}
 use Rattle.slash.specs.Bits.{leastFrom, leastPower, bitCount, bits, bit, bitOf, fields}
+use Rattle.slash.proofs.AnswerLaws.{some-not}
 
 -- ---- powers of two
 
@@ -21,6 +22,11 @@ one-shl k h = ap (λ (n : ℕ). n % 2 ^ 64) (one-mul (2 ^ k)) ∙ mod-eq-of-lt (
 
 pub pow-next : (k : ℕ) → 2 ^ (k + 1) ≡ 2 * 2 ^ k
 pow-next k = ap (λ (j : ℕ). 2 ^ j) (add-one k) ∙ pow-suc 2 k ∙ omega arith
+
+pub pow-before : (k : ℕ) → 1 ≤ k → 2 ^ k ≡ 2 * 2 ^ (k - 1)
+pow-before k h =
+    let e : k ≡ k - 1 + 1 = omega arith in
+    ap (λ (j : ℕ). 2 ^ j) e ∙ pow-next (k - 1)
 
 below-pow : (m : ℕ) → m < 2 ^ m
 below-pow zero = omega arith
@@ -65,9 +71,7 @@ least-power m =
 
 bit-count-some : (n : ℕ) → 1 ≤ n → Least (n + 1) (bitCount n)
 unfolding bitCount
-bit-count-some n h =
-    let z : n ≡ 0 → ⊥ = λ e. omega arith in
-    rw (ne-eqb n 0 z) (least-power (n + 1))
+bit-count-some n h = rw (some-not n h) (least-power (n + 1))
 
 pub bit-count-zero : bitCount 0 ≡ 1
 unfolding bitCount
@@ -104,6 +108,10 @@ bit-count-top n h = go (decLe (2 ^ (bitCount n - 1)) n) (decLe 2 (bitCount n))
         let e : bitCount n - 1 ≡ 0 = omega (arith, bit-count-pos n) in
         rw e h
 
+-- and what the bits after it say
+pub bit-count-rest : (n : ℕ) → 1 ≤ n → n - 2 ^ (bitCount n - 1) < 2 ^ (bitCount n - 1)
+bit-count-rest n h = omega (arith, bit-count-top n h, bit-count-lt n, pow-before (bitCount n) (bit-count-pos n))
+
 -- what has the leading bit at b - 1 has the bit count b
 pub bit-count-is : (n b : ℕ) → 1 ≤ b → n < 2 ^ b → 2 ^ (b - 1) ≤ n → bitCount n ≡ b
 bit-count-is n b l h k = le-antisymm (bit-count-le n b l h) (go (decLe b (bitCount n)))
@@ -136,9 +144,7 @@ odd-count zero = rw bit-count-zero (bit-count-is 1 1 (omega arith) (omega arith)
 odd-count (suc n) =
     let m : ℕ = suc n in
     let b : ℕ = bitCount m in
-    let e : b ≡ b - 1 + 1 = omega (arith, bit-count-pos m) in
-    let p : 2 ^ b ≡ 2 * 2 ^ (b - 1) = ap (λ (j : ℕ). 2 ^ j) e ∙ pow-next (b - 1) in
-    bit-count-is (m / 2 * 2 + 1) b (bit-count-pos m) (omega (arith, p, bit-count-lt m)) (omega (arith, bit-count-top m (omega arith)))
+    bit-count-is (m / 2 * 2 + 1) b (bit-count-pos m) (omega (arith, pow-before b (bit-count-pos m), bit-count-lt m)) (omega (arith, bit-count-top m (omega arith)))
 
 pub count-odd : (n : ℕ) → n < 2 ^ 64 → 64 - leadingZeros 64 (n / 2 * 2 + 1) ≡ bitCount n
 count-odd n h = bit-count-leading (n / 2 * 2 + 1) (omega arith) (omega arith) ∙ odd-count n

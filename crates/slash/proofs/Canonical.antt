@@ -10,27 +10,26 @@ use Prim.Native.Nat.{ℕ, _*_, _≤_}
 use native.Mathlib.Omega.{arith}
 use native.Mathlib.Decide.{ℕ-discrete}
 use native.Mathlib.Nat.{eq-one-of-dvd-one}
-use borrow.Author.Tests.{ne-eqb}
-use Rattle.convergents.specs.Pairs.{Pair, pair, miss}
+use Rattle.convergents.specs.Pairs.{Pair, pair, Lowest, miss}
 use Rattle.convergents.specs.Rounding.{held, round}
-use Rattle.convergents.proofs.Optimal.{held-is, one-held}
+use Rattle.convergents.proofs.Optimal.{held-is, one-held, zero-held}
 use Rattle.convergents.proofs.Theorem.{round-best, round-lowest, round-held}
-use Rattle.slash.specs.Answers.{stop, done}
+use Rattle.slash.specs.Answers.{done}
 use Rattle.slash.specs.Formats.{known, holds, largestPart}
 use Rattle.slash.specs.Steps.{SmallParts}
 use Rattle.slash.specs.Words.{numberOf, readWord, pairWord, nanWord, wordFor, isOverZero, writeNumber, valueOf, pairOf}
-use Rattle.slash.specs.Canonical.{Lowest, HeldParts, HeldValue, Reduced, Canonical, SameValue, SameNumber, Stores, CanonicalWord, WrittenBack}
+use Rattle.slash.specs.Canonical.{HeldParts, HeldValue, Reduced, Canonical, SameValue, SameNumber, Stores, CanonicalWord, WrittenBack}
 use Rattle.slash.specs.declared.format.Format.{Format}
 use Rattle.slash.specs.declared.number.Parts.{Parts}
 use Rattle.slash.specs.declared.number.Value.{Value}
 use Rattle.slash.specs.declared.number.Value.the-variants.{Fraction, Zero, Infinity, NotANumber}
 use Rattle.slash.specs.declared.number.Number.{Number}
-use Rattle.slash.proofs.AnswerLaws.{done-inj, no-stop}
+use Rattle.slash.proofs.AnswerLaws.{done-inj, no-stop, some-not}
 use Rattle.slash.proofs.FormatLaws.{format-limit, largest-most, largest-some, largest-below}
 use Rattle.slash.proofs.RoundingLaws.{held-miss, held-exact}
-use Rattle.slash.proofs.RoundTrip.{Proper, value-infinity, value-zero, value-fraction, Says, says-read, pair-says, nan-says}
+use Rattle.slash.proofs.RoundTrip.{Proper, zero-proper, infinity-proper, value-infinity, value-zero, value-fraction, Says, says-read, pair-says, nan-says}
 use Rattle.slash.proofs.WordLaws.{checked-known, checked-read, read-checked}
-use Rattle.slash.proofs.WriteLaws.{lowest-proper, zero-held, over-some, write-unknown, write-over-zero, write-done}
+use Rattle.slash.proofs.WriteLaws.{lowest-proper, over-some, write-unknown, write-over-zero, write-done}
 use Rattle.slash.proofs.Recompose.{Fractional, fractional}
 
 module _ (f : Format) (h : known f ≡ true) where
@@ -43,7 +42,6 @@ module _ (f : Format) (h : known f ≡ true) where
   -- and one in lowest terms to itself, so that its own parts are written
   fraction-word : (a : Bool) (p : Parts) → HeldParts f p → Lowest (p .numerator) (p .denominator)
       → wordFor f a (Fraction p) ≡ pairWord f (p .negative) a (pair (p .numerator) (p .denominator))
-  unfolding Lowest
   fraction-word a p q low =
       let n : ℕ = p .numerator in
       let d : ℕ = p .denominator in
@@ -54,9 +52,7 @@ module _ (f : Format) (h : known f ≡ true) where
   -- a held number is no fraction over 0
   pub held-over : (v : Value) → HeldValue f v → isOverZero v ≡ false
   unfolding HeldValue isOverZero
-  held-over (Fraction p) q =
-      let z : p .denominator ≡ 0 → ⊥ = λ e. omega (arith, q .some-denominator) in
-      ne-eqb _ _ z
+  held-over (Fraction p) q = some-not (p .denominator) (q .some-denominator)
   held-over (Zero s) q = refl
   held-over (Infinity s) q = refl
   held-over NotANumber q = refl
@@ -67,7 +63,7 @@ module _ (f : Format) (h : known f ≡ true) where
   -- what is written of a canonical number says that number
   canonical-says : (a : Bool) (v : Value) → HeldValue f v → Reduced a v
       → Says f (wordFor f a v) (record { value = v; approximate = a })
-  unfolding HeldValue Reduced wordFor valueOf Lowest
+  unfolding HeldValue Reduced wordFor valueOf
   canonical-says a (Fraction p) q low =
       let n : ℕ = p .numerator in
       let d : ℕ = p .denominator in
@@ -78,9 +74,9 @@ module _ (f : Format) (h : known f ≡ true) where
       subst (λ (w : ℕ). Says f w (record { value = Fraction p; approximate = a })) (sym (fraction-word a p q low))
       (rw v (pair-says f (p .negative) a n d h l (lowest-proper n d low)))
   canonical-says a (Zero s) q low =
-      pair-says f s a 0 1 h (zero-held f h) (record { zero-is = λ z. refl; infinity-is = λ z. absurd (omega arith) })
+      pair-says f s a 0 1 h (zero-held (holds f) (format-limit f h)) zero-proper
   canonical-says a (Infinity s) q low =
-      pair-says f s a 1 0 h (one-held (holds f)) (record { zero-is = λ z. absurd (omega arith); infinity-is = λ z. refl })
+      pair-says f s a 1 0 h (one-held (holds f)) infinity-proper
   canonical-says a NotANumber q low = rw low (nan-says f h)
 
   pub read-written : (x : Number) → Canonical f x → (w : ℕ) → writeNumber f x ≡ done w → readWord f w ≡ done x
@@ -145,7 +141,7 @@ module _ (f : Format) (h : known f ≡ true) where
         }
 
     fraction-back : (a : Bool) → WrittenBack f (record { value = Fraction p; approximate = a })
-    unfolding Lowest HeldValue Reduced SameNumber SameValue
+    unfolding HeldValue Reduced SameNumber SameValue
     fraction-back a =
         let x : Number = record { value = Fraction p; approximate = a } in
         let y : Number = record { value = Fraction lowest; approximate = a } in
@@ -250,7 +246,7 @@ module _ (f : Format) (h : known f ≡ true) where
   -- every word that is written is canonical, and says the rounded number
   module _ (s a : Bool) (n d : ℕ) (l : held (holds f) (pair n d) ≡ true) (low : Lowest n d) where
     pair-stores : Stores f (pairWord f s a (pair n d)) a (valueOf s (pair n d))
-    unfolding Stores Lowest
+    unfolding Stores
     pair-stores = go (ℕ-discrete d 0) (ℕ-discrete n 0)
       where
         proper : Proper n d
@@ -264,7 +260,6 @@ module _ (f : Format) (h : known f ≡ true) where
         go (no z) (no y) = subst (λ (v : Value). Stores f (pairWord f s a (pair n d)) a v) (value-fraction s n d z y) low
 
     pair-canonical : CanonicalWord f (pairWord f s a (pair n d))
-    unfolding Lowest
     pair-canonical =
         record {
           number = record { value = valueOf s (pair n d); approximate = a };
@@ -273,13 +268,13 @@ module _ (f : Format) (h : known f ≡ true) where
         }
 
   word-canonical : (a : Bool) (v : Value) → isOverZero v ≡ false → CanonicalWord f (wordFor f a v)
-  unfolding wordFor Lowest Stores
+  unfolding wordFor Stores
   word-canonical a (Fraction p) z =
       let N : ℕ = p .numerator in
       let D : ℕ = p .denominator in
       pair-canonical (p .negative) _ _ _ (round-best (holds f) (format-limit f h) N D (over-some (Fraction p) p refl z) .isHeld)
       (round-lowest (holds f) (format-limit f h) N D)
-  word-canonical a (Zero s) z = pair-canonical s a 0 1 (zero-held f h) (λ g i j. eq-one-of-dvd-one j)
+  word-canonical a (Zero s) z = pair-canonical s a 0 1 (zero-held (holds f) (format-limit f h)) (λ g i j. eq-one-of-dvd-one j)
   word-canonical a (Infinity s) z = pair-canonical s a 1 0 (one-held (holds f)) (λ g i j. eq-one-of-dvd-one i)
   word-canonical a NotANumber z =
       record {

@@ -154,6 +154,9 @@ module _ (f : Format) (r s : ℕ) where
   pub floating-holds : (f .kind ≡ 1 → ⊥) → holds f r s ≡ true → bitCount r + bitCount s ≤ f .k
   floating-holds n h = leb-true _ _ (holds-floating n _ _ refl refl ∙ h)
 
+  pub holds-sum : (f .kind ≡ 1 → ⊥) → bitCount r + bitCount s ≤ f .k → holds f r s ≡ true
+  holds-sum n h = sym (holds-floating n _ _ refl refl) ∙ le-leb _ _ h
+
 -- Each known format is a limit: it holds 1/1, and is closed downward.
 pub format-limit : (f : Format) → known f ≡ true → Limit (holds f)
 format-limit f h = go (ℕ-discrete (f .kind) 1)
@@ -178,12 +181,12 @@ format-limit f h = go (ℕ-discrete (f .kind) 1)
     floating n = record {
       one =
           let l : bitCount 1 + bitCount 1 ≤ f .k = omega (arith, k .0, bit-count-le 1 1 (omega arith) (omega arith)) in
-          sym (holds-floating f 1 1 n _ _ refl refl) ∙ le-leb _ _ l;
+          holds-sum f 1 1 n l;
       downward =
           λ r s r′ s′ t i j l.
           let w = floating-holds f r s n t in
           let a : bitCount r′ + bitCount s′ ≤ f .k = omega (arith, w, bit-count-mono i, bit-count-mono l) in
-          sym (holds-floating f r′ s′ n _ _ refl refl) ∙ le-leb _ _ a;
+          holds-sum f r′ s′ n a;
     }
 
     go : Dec (f .kind ≡ 1) → Limit (holds f)
@@ -231,7 +234,7 @@ module _ (f : Format) (h : known f ≡ true) where
           let b : bitCount 1 ≤ 1 = bit-count-le 1 1 (omega arith) (omega arith) in
           let i : bitCount m + bitCount 1 ≤ f .k = omega (arith, known-k f h) in
           let j : bitCount 1 + bitCount m ≤ f .k = omega arith in
-          (sym (holds-floating f m 1 n _ _ refl refl) ∙ le-leb _ _ i, sym (holds-floating f 1 m n _ _ refl refl) ∙ le-leb _ _ j)
+          (holds-sum f m 1 n i, holds-sum f 1 m n j)
 
   pub largest-most : (r s : ℕ) → holds f r s ≡ true → (r ≤ largestPart f) × (s ≤ largestPart f)
   largest-most r s l = go (ℕ-discrete (f .kind) 1)

@@ -22,7 +22,7 @@ use Rattle.slash.specs.declared.number.Value.{Value}
 use Rattle.slash.specs.declared.number.Value.the-variants.{Fraction, Zero, Infinity, NotANumber}
 use Rattle.slash.specs.declared.number.Number.{Number}
 use Rattle.slash.proofs.BitLaws.{pow-next, bits-lt, bit-count-is, bit-count-le}
-use Rattle.slash.proofs.FormatLaws.{known-k, width-fixed, width-floating, holds-both, holds-floating}
+use Rattle.slash.proofs.FormatLaws.{known-k, width-fixed, width-floating, holds-both, holds-sum}
 use Rattle.slash.proofs.WordLaws.{fixed-zero, fixed-nan-zero, fixed-infinity, fixed-nan-infinity, fixed-fraction, floating-zero, floating-fraction, special-infinity, special-nan, number-fixed, number-floating, checked-below}
 use Rattle.slash.proofs.RoundTrip.{word-fixed, word-floating}
 
@@ -49,6 +49,12 @@ bit-of from w = go (bits from 1 w) (bits-lt from 1 w)
     go (suc zero) h = refl
     go (suc (suc b)) h = absurd (omega arith)
 
+-- a fraction is no other value
+not-fraction : {v : Value} {p : Parts} (s : Bool) → v ≡ Fraction p → v ≡ Zero s ⊎ (v ≡ Infinity s ⊎ v ≡ NotANumber) → ⊥
+not-fraction s e (inl g) = let z : _≡_ {A = ℕ} 0 1 = cc in omega arith
+not-fraction s e (inr (inl g)) = let z : _≡_ {A = ℕ} 0 1 = cc in omega arith
+not-fraction s e (inr (inr g)) = let z : _≡_ {A = ℕ} 0 1 = cc in omega arith
+
 -- ---- a fixed word that is read as a fraction
 
 module _ (s : Bool) (n d : ℕ) (p : Parts) (h : fixedValue s n d ≡ Fraction p) where
@@ -56,9 +62,7 @@ module _ (s : Bool) (n d : ℕ) (p : Parts) (h : fixedValue s n d ≡ Fraction p
   fixed-some = go (ℕ-discrete n 0) (ℕ-discrete d 0) (ℕ-discrete (d % 2) 1) (ℕ-discrete (n % 2) 1)
     where
       clash : {v : Value} → v ≡ fixedValue s n d → v ≡ Zero s ⊎ (v ≡ Infinity s ⊎ v ≡ NotANumber) → (1 ≤ n) × (1 ≤ d)
-      clash e (inl g) = let z : _≡_ {A = ℕ} 0 1 = cc in absurd (omega arith)
-      clash e (inr (inl g)) = let z : _≡_ {A = ℕ} 0 1 = cc in absurd (omega arith)
-      clash e (inr (inr g)) = let z : _≡_ {A = ℕ} 0 1 = cc in absurd (omega arith)
+      clash e g = absurd (not-fraction s (e ∙ h) g)
 
       go : Dec (n ≡ 0) → Dec (d ≡ 0) → Dec (d % 2 ≡ 1) → Dec (n % 2 ≡ 1) → (1 ≤ n) × (1 ≤ d)
       go (yes a) b (yes e) g = clash (fixed-zero s n d a e) (inl refl)
@@ -75,11 +79,6 @@ module _ (s : Bool) (n d : ℕ) (p : Parts) (h : fixedValue s n d ≡ Fraction p
 -- the value is a fraction only at a slash position that parts the field, and with a numerator that isn't 0
 module _ (k : ℕ) (s : Bool) (e f : ℕ) (p : Parts)
     (h : (if leb e (k - 2) then floatingFraction s e f else floatingSpecial s f) ≡ Fraction p) where
-  not-fraction : {v : Value} → v ≡ Fraction p → v ≡ Zero s ⊎ (v ≡ Infinity s ⊎ v ≡ NotANumber) → ⊥
-  not-fraction e (inl g) = let z : _≡_ {A = ℕ} 0 1 = cc in omega arith
-  not-fraction e (inr (inl g)) = let z : _≡_ {A = ℕ} 0 1 = cc in omega arith
-  not-fraction e (inr (inr g)) = let z : _≡_ {A = ℕ} 0 1 = cc in omega arith
-
   floating-parted : e ≤ k - 2
   floating-parted = go (decLe e (k - 2)) (ℕ-discrete (f % 2) 0)
     where
@@ -87,10 +86,10 @@ module _ (k : ℕ) (s : Bool) (e f : ℕ) (p : Parts)
       go (yes l) g = l
       go (no l) (yes g) =
           let m : k - 2 < e = omega arith in
-          absurd (not-fraction (special-infinity s f g ∙ (rw (lt-leb _ _ m) at h)) (inr (inl refl)))
+          absurd (not-fraction s (special-infinity s f g ∙ (rw (lt-leb _ _ m) at h)) (inr (inl refl)))
       go (no l) (no g) =
           let m : k - 2 < e = omega arith in
-          absurd (not-fraction (special-nan s f g ∙ (rw (lt-leb _ _ m) at h)) (inr (inr refl)))
+          absurd (not-fraction s (special-nan s f g ∙ (rw (lt-leb _ _ m) at h)) (inr (inr refl)))
 
   floating-is : floatingFraction s e f ≡ Fraction p
   floating-is = rw (le-leb _ _ floating-parted) at h
@@ -99,7 +98,7 @@ module _ (k : ℕ) (s : Bool) (e f : ℕ) (p : Parts)
   floating-some = go (ℕ-discrete (f / 2 ^ e) 0)
     where
       go : Dec (f / 2 ^ e ≡ 0) → 1 ≤ f / 2 ^ e
-      go (yes z) = absurd (not-fraction (floating-zero s e f z ∙ floating-is) (inl refl))
+      go (yes z) = absurd (not-fraction s (floating-zero s e f z ∙ floating-is) (inl refl))
       go (no z) = omega arith
 
   floating-parts-are : Fraction (record { negative = s; numerator = f / 2 ^ e; denominator = f % 2 ^ e + 2 ^ e }) ≡ Fraction p
@@ -206,7 +205,7 @@ module _ (f : Format) (w : ℕ) (h : known f ≡ true) (c : checkWord f w ≡ do
         let g : n * 2 ^ E + (d - 2 ^ E) ≡ F = omega (arith, div-add-mod' F (2 ^ E)) in
         rw (← same)
         (record {
-          parts = record { some-numerator = some; some-denominator = omega (arith, pow-pos E); holds-it = sym (holds-floating f n d e _ _ refl refl) ∙ le-leb _ _ i };
+          parts = record { some-numerator = some; some-denominator = omega (arith, pow-pos E); holds-it = holds-sum f n d e i };
           again = rw (← a) (sym (word-floating f S A n d e) ∙ rw (ne-eqb _ _ z, c, g) floating-whole);
         })
 

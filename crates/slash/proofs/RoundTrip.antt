@@ -6,7 +6,7 @@ use native.Mathlib.Omega.{arith}
 use native.Mathlib.Decide.{ℕ-discrete}
 use native.Mathlib.Nat.{zero-mul}
 use lib.Arith.{digits-div, digits-mod}
-use lib.Pow.{pow-pos, pow-mono}
+use lib.Pow.{pow-pos, pow-mono, ones-lt}
 use borrow.Author.Tests.{le-leb, lt-leb, eq-eqb, ne-eqb}
 use Rattle.convergents.specs.Pairs.{pair}
 use Rattle.convergents.specs.Rounding.{held}
@@ -17,7 +17,7 @@ use Rattle.slash.specs.Words.{fixedValue, fixedNumber, slashPosition, sl
 use Rattle.slash.specs.declared.format.Format.{Format}
 use Rattle.slash.specs.declared.number.Value.the-variants.{Fraction, Zero, Infinity, NotANumber}
 use Rattle.slash.specs.declared.number.Number.{Number}
-use Rattle.slash.proofs.BitLaws.{bit-lt, bit-back, bit-count-pos, bit-count-lt, bit-count-top, pow-next, fields-z, fields-y, fields-x, fields-s, fields-lt}
+use Rattle.slash.proofs.BitLaws.{bit-lt, bit-back, bit-count-pos, bit-count-top, bit-count-rest, fields-z, fields-y, fields-x, fields-s, fields-lt}
 use Rattle.slash.proofs.FormatLaws.{known-k, fixed-parts, floating-parts, slash-bits-enough, slash-bits-pos, width-fixed, width-floating}
 use Rattle.slash.proofs.WordLaws.{fixed-zero, fixed-nan-zero, fixed-infinity, fixed-fraction, floating-zero, floating-fraction, special-infinity, special-nan, undefined-below, pair-field, pair-slash, check-fixed, check-floating, number-fixed, number-floating, checked-read}
 
@@ -27,6 +27,12 @@ use Rattle.slash.proofs.WordLaws.{fixed-zero, fixed-nan-zero, fixed-inf
 pub record Proper (n d : ℕ) : Type 0 where
   pub zero-is : n ≡ 0 → d ≡ 1
   pub infinity-is : d ≡ 0 → n ≡ 1
+
+pub zero-proper : Proper 0 1
+zero-proper = record { zero-is = λ e. refl; infinity-is = λ e. absurd (omega arith) }
+
+pub infinity-proper : Proper 1 0
+infinity-proper = record { zero-is = λ e. absurd (omega arith); infinity-is = λ e. refl }
 
 module _ (s : Bool) (n d : ℕ) where
   pub value-infinity : d ≡ 0 → Infinity s ≡ valueOf s (pair n d)
@@ -76,11 +82,7 @@ module _ (s : Bool) (n d : ℕ) where
       f = n * p + (d - p)
 
       low : d - p < p
-      low =
-          let pos : 1 ≤ d = omega arith in
-          let e : bitCount d ≡ bitCount d - 1 + 1 = omega (arith, bit-count-pos d) in
-          let top : 2 ^ bitCount d ≡ 2 * 2 ^ (bitCount d - 1) = ap (λ (j : ℕ). 2 ^ j) e ∙ pow-next (bitCount d - 1) in
-          omega (arith, bit-count-top d pos, bit-count-lt d)
+      low = bit-count-rest d (omega arith)
 
       quotient : f / p ≡ n
       quotient = digits-div n low
@@ -217,7 +219,7 @@ module _ (f : Format) (s a : Bool) (n d : ℕ) where
     floating-infinity e z =
         let k : ℕ = f .k in
         let hk = known-k f h .0 in
-        let b : 2 ^ slashBits k - 1 < 2 ^ slashBits k = omega (arith, pow-pos (slashBits k)) in
+        let b = ones-lt (slashBits k) in
         let w : ℕ = floatingWord k (bitOf s) (bitOf a) (2 ^ slashBits k - 1) 0 in
         rw (eq-eqb _ _ z)
         (record {
@@ -290,7 +292,7 @@ module _ (f : Format) where
         let k : ℕ = f .k in
         let hk = known-k f h .0 in
         let i : 1 ≤ k - 1 = omega arith in
-        let b : 2 ^ slashBits k - 1 < 2 ^ slashBits k = omega (arith, pow-pos (slashBits k)) in
+        let b = ones-lt (slashBits k) in
         let c : 1 < 2 ^ (k - 1) = omega (arith, pow-mono i) in
         let w : ℕ = floatingWord k 0 0 (2 ^ slashBits k - 1) 1 in
         record {

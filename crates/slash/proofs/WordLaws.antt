@@ -20,7 +20,7 @@ use Rattle.slash.specs.declared.number.Number.{Number}
 use Rattle.slash.specs.declared.reading.Checked.{Checked}
 use Rattle.slash.specs.declared.reading.Checked.the-variants as Checked
 use Rattle.slash.proofs.AnswerLaws.{no-stop, then-stop}
-use Rattle.slash.proofs.BitLaws.{pow-next, bit-count-lt, bit-count-pos, bit-count-top}
+use Rattle.slash.proofs.BitLaws.{pow-before, bit-count-lt, bit-count-pos, bit-count-top, bit-count-rest}
 use Rattle.slash.proofs.FormatLaws.{known-fits, slash-bits-enough}
 
 -- ---- fixed words
@@ -145,16 +145,9 @@ module _ (k n d : ℕ) (pos : 1 ≤ d) (h : bitCount n + bitCount d ≤ k) where
   pub pair-field : n * 2 ^ (bitCount d - 1) + (d - 2 ^ (bitCount d - 1)) < 2 ^ (k - 1)
   pair-field =
       let e : ℕ = bitCount d - 1 in
-      let top : d < 2 ^ e + 2 ^ e = omega (arith, bit-count-lt d, bit-count-pos d, double) in
-      let low : d - 2 ^ e < 2 ^ e = omega (arith, bit-count-top d pos) in
-      let all : n * 2 ^ e + (d - 2 ^ e) < 2 ^ bitCount n * 2 ^ e = digits-lt (bit-count-lt n) low in
+      let all : n * 2 ^ e + (d - 2 ^ e) < 2 ^ bitCount n * 2 ^ e = digits-lt (bit-count-lt n) (bit-count-rest d pos) in
       let g : bitCount n + e ≤ k - 1 = omega (arith, bit-count-pos d) in
       omega (arith, pow-add 2 (bitCount n) e, pow-mono g)
-    where
-      double : 2 ^ bitCount d ≡ 2 * 2 ^ (bitCount d - 1)
-      double =
-          let e : bitCount d ≡ bitCount d - 1 + 1 = omega (arith, bit-count-pos d) in
-          ap (λ (j : ℕ). 2 ^ j) e ∙ pow-next (bitCount d - 1)
 
   pub pair-slash : bitCount d - 1 < 2 ^ slashBits k
   pair-slash = omega (arith, bit-count-pos n, bit-count-pos d, slash-bits-enough k)
@@ -188,20 +181,15 @@ pub above-is : (width w : ℕ) → 0 < width → leb 2 (w / 2 ^ (width - 1)) ≡
 unfolding isAbove
 above-is width w h = go (leb 2 (w / 2 ^ (width - 1))) refl
   where
-    double : 2 ^ width ≡ 2 * 2 ^ (width - 1)
-    double =
-        let e : width ≡ width - 1 + 1 = omega arith in
-        ap (λ (j : ℕ). 2 ^ j) e ∙ pow-next (width - 1)
-
     go : (b : Bool) → leb 2 (w / 2 ^ (width - 1)) ≡ b → leb 2 (w / 2 ^ (width - 1)) ≡ leb (2 ^ width) w
     go true e =
         let l : 2 ^ width ≤ w =
-        omega (arith, double, le-div-iff-mul-le {k = 2 ^ (width - 1)} {x = 2} {y = w} (pow-pos (width - 1)) .0 (leb-true _ _ e))
+        omega (arith, pow-before width h, le-div-iff-mul-le {k = 2 ^ (width - 1)} {x = 2} {y = w} (pow-pos (width - 1)) .0 (leb-true _ _ e))
         in
         e ∙ sym (le-leb _ _ l)
     go false e =
         let l : w < 2 ^ width =
-        omega (arith, double, div-lt-iff-lt-mul {k = 2 ^ (width - 1)} {x = w} {y = 2} (pow-pos (width - 1)) .0 (leb-false _ _ e))
+        omega (arith, pow-before width h, div-lt-iff-lt-mul {k = 2 ^ (width - 1)} {x = w} {y = 2} (pow-pos (width - 1)) .0 (leb-false _ _ e))
         in
         e ∙ sym (lt-leb _ _ l)
 

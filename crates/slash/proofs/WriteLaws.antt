@@ -6,10 +6,10 @@ use native.Mathlib.Omega.{arith}
 use native.Mathlib.Nat.{dvd-refl, dvd-zero, eq-one-of-dvd-one}
 use lib.Dec.{eqb}
 use borrow.Author.Tests.{eqb-false, eq-eqb, ne-eqb}
-use Rattle.convergents.specs.Pairs.{Pair, pair, differs}
+use Rattle.convergents.specs.Pairs.{Pair, pair, Lowest, differs}
 use Rattle.convergents.specs.Rounding.{round, held}
 use Rattle.convergents.specs.Best.{Best}
-use Rattle.convergents.proofs.Optimal.{held-is}
+use Rattle.convergents.proofs.Optimal.{zero-held}
 use Rattle.convergents.proofs.Theorem.{round-best, round-lowest, round-held}
 use Rattle.slash.specs.Answers.{stop, done}
 use Rattle.slash.specs.Formats.{known, holds}
@@ -23,10 +23,10 @@ use Rattle.slash.specs.declared.number.Value.the-variants.{Fraction, Zer
 use Rattle.slash.specs.declared.number.Number.{Number}
 use Rattle.slash.specs.declared.rounding.Rounded.{Rounded}
 use Rattle.slash.proofs.FormatLaws.{format-limit}
-use Rattle.slash.proofs.RoundTrip.{Proper, pair-value, pair-says}
+use Rattle.slash.proofs.RoundTrip.{Proper, zero-proper, pair-value, pair-says}
 
 -- what is in lowest terms stands for a value
-pub lowest-proper : (n d : ℕ) → ((g : ℕ) → g ∣ n → g ∣ d → g ≡ 1) → Proper n d
+pub lowest-proper : (n d : ℕ) → Lowest n d → Proper n d
 lowest-proper n d low =
     record {
       zero-is = λ e. low d (subst (λ (m : ℕ). d ∣ m) (sym e) (dvd-zero d)) (dvd-refl d);
@@ -34,13 +34,8 @@ lowest-proper n d low =
     }
 
 module _ (f : Format) (h : known f ≡ true) where
-  pub zero-held : held (holds f) (pair 0 1) ≡ true
-  zero-held =
-      held-is (holds f) 0 1 (omega arith)
-      ∙ format-limit f h .downward 1 1 0 1 (format-limit f h .one) (omega arith) (omega arith) (omega arith)
-
   zero-rounded : round (holds f) 0 1 ≡ pair 0 1
-  zero-rounded = round-held (holds f) (format-limit f h) 0 1 (omega arith) zero-held (λ g i j. eq-one-of-dvd-one j)
+  zero-rounded = round-held (holds f) (format-limit f h) 0 1 (omega arith) (zero-held (holds f) (format-limit f h)) (λ g i j. eq-one-of-dvd-one j)
 
   zero-best : Best (holds f) 0 1 (pair 0 1)
   zero-best = subst (λ (x : Pair). Best (holds f) 0 1 x) zero-rounded (round-best (holds f) (format-limit f h) 0 1 (omega arith))
@@ -67,7 +62,7 @@ module _ (f : Format) (h : known f ≡ true) where
       let b = round-best (holds f) (format-limit f h) N D (omega arith) in
       best-back (p .negative) _ _ _ _ (b .isHeld) (lowest-proper _ _ (round-lowest (holds f) (format-limit f h) N D)) refl N D b
   word-best a (Zero s) z =
-      best-back s a 0 1 _ zero-held (record { zero-is = λ q. refl; infinity-is = λ q. absurd (omega arith) }) refl 0 1 zero-best
+      best-back s a 0 1 _ (zero-held (holds f) (format-limit f h)) zero-proper refl 0 1 zero-best
   word-best a (Infinity s) z = tt
   word-best a NotANumber z = tt
 

@@ -1,9 +1,9 @@
 -- Canonical numbers and words, for the laws of reading and writing.
-use Prim.Native.Nat.{ℕ, _*_, _≤_, _∣_}
+use Prim.Native.Nat.{ℕ, _*_, _≤_}
 use mathlib.Core.Path.{_≡_}
 use mathlib.Core.Bool.{Bool, true, false}
 use mathlib.Core.Logic.{_⊎_}
-use Rattle.convergents.specs.Pairs.{pair}
+use Rattle.convergents.specs.Pairs.{pair, Lowest}
 use Rattle.slash.specs.Answers.{done}
 use Rattle.slash.specs.Formats.{holds}
 use Rattle.slash.specs.Words.{readWord, pairWord, nanWord, writeNumber}
@@ -12,10 +12,6 @@ use Rattle.slash.specs.declared.number.Parts.{Parts}
 use Rattle.slash.specs.declared.number.Value.{Value}
 use Rattle.slash.specs.declared.number.Value.the-variants.{Fraction, Zero, Infinity, NotANumber}
 use Rattle.slash.specs.declared.number.Number.{Number}
-
--- n/d is in lowest terms: only 1 divides both.
-unfoldable pub Lowest : ℕ → ℕ → Type 0
-Lowest n d = (g : ℕ) → g ∣ n → g ∣ d → g ≡ 1
 
 -- The parts of a fraction that the format holds: neither is 0.
 pub record HeldParts (f : Format) (p : Parts) : Type 0 where

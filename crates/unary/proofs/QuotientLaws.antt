@@ -7,7 +7,6 @@ use native.Mathlib.Omega.{arith}
 use native.Mathlib.Nat.{mod-lt, zero-lt-suc, div-le-self, le-div-iff-mul-le, div-add-mod', mul-le-mul-right, pow-suc}
 use native.Mathlib.Decide.{ℕ-discrete}
 use native.Mathlib.Numerals.{add-one}
-use lib.Pow.{pow-pos, pow-mono}
 use lib.ListN.{length, take, drop, set, length-set, length-append, take-append-drop}
 use lib.Seq.{length-take-le, take-suc-set, drop-set-lt, drop-drop}
 use lib.Dec.{ltb}
@@ -16,10 +15,8 @@ use Rattle.convergents.specs.Convergents.{euclid, quotients}
 use Rattle.convergents.proofs.Theorem.{euclid-enough, euclid-done}
 use Rattle.slash.specs.Answers.{Outcome, stop, done, _then_}
 use Rattle.convergents.specs.Pairs.{Pair, pair}
-use Rattle.slash.specs.Formats.{known}
 use Rattle.slash.specs.Words.{partsOf, pairOf, numberOf, numberIn, checkWord, readWord}
-use Rattle.slash.specs.Canonical.{HeldParts, HeldValue}
-use Rattle.slash.proofs.AnswerLaws.{then-stop, then-done, done-inj}
+use Rattle.slash.proofs.AnswerLaws.{then-stop, then-done, done-inj, no-stop}
 use Rattle.slash.proofs.FormatLaws.{largest-below}
 use Rattle.slash.proofs.WordLaws.{checked-known, checked-number, checked-read}
 use Rattle.slash.proofs.Canonical.{held-most, read-known, read-held}
@@ -197,7 +194,7 @@ unfolding wordQuotients
 quotients-at-most f w new e = go (readWord f w) refl
   where
     go : (o : Outcome Number) → readWord f w ≡ o → length new ≤ 2 * f .k
-    go (stop n p) r = let z : _≡_ {A = ℕ} 0 1 = cc (sym (ap (λ (o : Outcome Number). o then λ x. done (valueQuotients (x .value))) r) ∙ e) in absurd (omega arith)
+    go (stop n p) r = absurd (no-stop (sym (ap (λ (o : Outcome Number). o then λ x. done (valueQuotients (x .value))) r) ∙ e))
     go (done x) r =
         let h = read-known f w x r in
         let v : Value = x .value in

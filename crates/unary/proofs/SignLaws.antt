@@ -1,6 +1,6 @@
 -- Negate and absolute value, of what the words say: the same number with the new sign. Assumes nothing.
 use mathlib.Core.Path.{_≡_, refl, sym, ap, ap₂, _∙_, subst}
-use mathlib.Core.Bool.{Bool, true, false}
+use mathlib.Core.Bool.{Bool, true, false, true≢false}
 use Prim.Native.Nat.{ℕ, _+_, _-_, _*_, _/_, _%_, _^_, _≤_, _<_}
 use native.Mathlib.Omega.{arith}
 use native.Mathlib.Nat.{mod-lt, mod-eq-of-lt}
@@ -17,7 +17,7 @@ use Rattle.slash.specs.Words.{fixedValue, fixedNumber, slashPosition, slashUnde
 use Rattle.slash.proofs.AnswerLaws.{done-inj, no-stop}
 use Rattle.slash.proofs.BitLaws.{pow-next, bit-lt, bit-back}
 use Rattle.slash.proofs.FormatLaws.{known-k, width-fixed, width-floating, width-range}
-use Rattle.slash.proofs.WordLaws.{check-above, check-undefined, check-fixed, check-floating, number-fixed, number-floating, checked-known, checked-read, read-checked}
+use Rattle.slash.proofs.WordLaws.{check-undefined, check-fixed, check-floating, number-fixed, number-floating, checked-known, checked-below, checked-read, read-checked}
 use Rattle.slash.specs.declared.format.Format.{Format}
 use Rattle.slash.specs.declared.number.Value.{Value}
 use Rattle.slash.specs.declared.number.Value.the-variants.{Fraction, Zero, Infinity, NotANumber}
@@ -84,7 +84,7 @@ module _ (s t : Bool) where
 
   turned-nan : Turned s t NotANumber NotANumber
   unfolding withSign isNan
-  turned-nan = record { same = refl; sign = λ e. let z : _≡_ {A = ℕ} 0 1 = cc in absurd (omega arith) }
+  turned-nan = record { same = refl; sign = λ e. absurd (true≢false e) }
 
   turned-fraction : (n d : ℕ) → Turned s t (Fraction (record { negative = t; numerator = n; denominator = d })) (Fraction (record { negative = s; numerator = n; denominator = d }))
   unfolding withSign signIn
@@ -122,13 +122,6 @@ module _ (f : Format) (w : ℕ) (c : checkWord f w ≡ done tt) (s : Bool) where
 
   h : known f ≡ true
   h = checked-known f w c
-
-  within : isAbove (widthOf f) w ≡ false
-  within = go (isAbove (widthOf f) w) refl
-    where
-      go : (b : Bool) → isAbove (widthOf f) w ≡ b → isAbove (widthOf f) w ≡ false
-      go false e = e
-      go true e = absurd (no-stop (check-above f w h e ∙ c))
 
   within-still : isAbove (widthOf f) new ≡ false
   unfolding isAbove signBit
@@ -173,7 +166,7 @@ module _ (f : Format) (w : ℕ) (c : checkWord f w ≡ done tt) (s : Bool) where
       where
         go : (b : Bool) → slashUndefined (f .k) w ≡ b → slashUndefined (f .k) w ≡ false
         go false u = u
-        go true u = absurd (no-stop (check-undefined f w h within e u ∙ c))
+        go true u = absurd (no-stop (check-undefined f w h (checked-below f w c) e u ∙ c))
 
     checked-floating : checkWord f new ≡ done tt
     unfolding slashUndefined

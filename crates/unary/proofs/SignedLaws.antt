@@ -1,10 +1,10 @@
 -- Signed numbers. Each machine step reads `toZ (ofZ z)`, which is z where z fits; each law is over ℤ, by cases on the sign. Assumes nothing.
 use mathlib.Core.Path.{_≡_, refl, sym, ap, _∙_, subst, subst⁻¹}
-use mathlib.Core.Bool.{Bool, true, false}
+use mathlib.Core.Bool.{Bool, true, false, true≢false, false≢true}
 use Prim.Native.Nat.{ℕ, zero, suc, _+_, _-_, _*_, _/_, _%_, _^_, _<_, _≤_}
 use native.Mathlib.Omega.{arith}
 use native.Mathlib.Nat.{zero-add, div-le-self, div-add-mod', mod-lt, mod-le}
-use lib.Dec.{T, ltb}
+use lib.Dec.{T}
 use lib.IntN.{ℤ, pos, negsuc, negℤ, natAbs, sucℤ, predℤ, _+ℤ_, _-ℤ_, _*ℤ_, +ℤ-idl, +ℤ-comm, +ℤ-negℤ-cancel, -ℤ-+ℤ-cancel, negℤ-negℤ, negℤ-sucℤ}
 use lib.Signed.{ltZ, leZ, nonNeg, quotZ}
 use mir.Syntax.{w64}
@@ -23,9 +23,12 @@ read z = toZ w64 (ofZ w64 z)
 pub same : {z : ℤ} → SFits w64 z → read z ≡ z
 same h = toZ-ofZ h
 
+large-fits : (z : ℤ) → natAbs z < 2 ^ 63 → SFits w64 z
+large-fits (pos n) h = record { sfits = omega arith }
+large-fits (negsuc n) h = record { sfits = omega arith }
+
 pub small-fits : (z : ℤ) → natAbs z < 2 ^ 62 → SFits w64 z
-small-fits (pos n) h = record { sfits = omega arith }
-small-fits (negsuc n) h = record { sfits = omega arith }
+small-fits z h = large-fits z (omega arith)
 
 -- what holds of a number holds of what the machine reads of it
 pub of-read : (P : ℤ → Type 0) {z : ℤ} → SFits w64 z → P z → P (read z)
@@ -75,11 +78,7 @@ opposite-above (negsuc n) e = tt
 
 above : (z : ℤ) → ltZ z (pos 0) ≡ false → nonNeg z ≡ true
 above (pos n) e = refl
-above (negsuc n) e = let y : _≡_ {A = ℕ} 0 1 = cc in absurd (omega arith)
-
-above-told : (z : ℤ) → nonNeg z ≡ true → T (nonNeg z)
-above-told (pos n) e = tt
-above-told (negsuc n) e = let y : _≡_ {A = ℕ} 0 1 = cc in absurd (omega arith)
+above (negsuc n) e = absurd (true≢false e)
 
 flipped-above : (z : ℤ) → ltZ z (pos 0) ≡ true → nonNeg (flipped z) ≡ true
 unfolding flipped
@@ -110,7 +109,7 @@ module _ (z : ℤ) (b : natAbs z < 2 ^ 62) where
   pub size-keep : ltZ (read z) (pos 0) ≡ false → T (nonNeg (read z)) × Fits w64 (natAbs (read z))
   size-keep t =
       of-read (λ y. T (nonNeg y) × Fits w64 (natAbs y)) fits
-      (above-told z (above z (ap (λ (y : ℤ). ltZ y (pos 0)) (sym (same fits)) ∙ t)), some-fits)
+      (subst T (sym (above z (ap (λ (y : ℤ). ltZ y (pos 0)) (sym (same fits)) ∙ t))) tt, some-fits)
 
   pub size-returns : natAbs (read (pos 0 -ℤ read z)) ≡ natAbs z
   size-returns = ap natAbs opposite-returns ∙ neg-size z
@@ -142,11 +141,11 @@ module _ (n : ℤ) (h : SFits w64 n) where
 
 quotient-is : (n : ℤ) (d : ℕ) → nonNeg n ≡ true → quotZ n (pos d) ≡ pos (natAbs n / d)
 quotient-is (pos a) d h = refl
-quotient-is (negsuc a) d h = let y : _≡_ {A = ℕ} 0 1 = cc in absurd (omega arith)
+quotient-is (negsuc a) d h = absurd (false≢true h)
 
 quotient-small : (n : ℤ) (d : ℕ) → SFits w64 n → nonNeg n ≡ true → SFits w64 (pos (natAbs n / d))
 quotient-small (pos a) d f h = record { sfits = omega (arith, f .sfits, div-le-self a d) }
-quotient-small (negsuc a) d f h = let y : _≡_ {A = ℕ} 0 1 = cc in absurd (omega arith)
+quotient-small (negsuc a) d f h = absurd (false≢true h)
 
 module _ (n : ℤ) (d : ℕ) (f : SFits w64 n) (h : nonNeg n ≡ true) (some : 0 < d) (small : d < 2 ^ 62) where
   quotient-machine : quotZ (read n) (toZ w64 d) ≡ pos (natAbs n / d)
@@ -172,13 +171,13 @@ module _ (n : ℤ) (f : SFits w64 n) where
 
 floor-flipped : (n : ℤ) (d : ℕ) → nonNeg (flipped n) ≡ true → flipped (pos (natAbs (flipped n) / d)) ≡ floorBy n d
 unfolding flipped floorBy
-floor-flipped (pos a) d h = let y : _≡_ {A = ℕ} 0 1 = cc in absurd (omega arith)
+floor-flipped (pos a) d h = absurd (false≢true h)
 floor-flipped (negsuc a) d h = refl
 
 floor-plain : (n : ℤ) (d : ℕ) → nonNeg n ≡ true → pos (natAbs n / d) ≡ floorBy n d
 unfolding floorBy
 floor-plain (pos a) d h = refl
-floor-plain (negsuc a) d h = let y : _≡_ {A = ℕ} 0 1 = cc in absurd (omega arith)
+floor-plain (negsuc a) d h = absurd (false≢true h)
 
 module _ (n : ℤ) (d : ℕ) (nf : SFits w64 n) where
   -- the number flipped, its quotient, and that flipped back
@@ -229,7 +228,7 @@ opposite-le (pos zero) (pos zero) h = le-leb 0 0 (omega arith)
 opposite-le (pos zero) (pos (suc n)) h = refl
 opposite-le (pos (suc m)) (pos zero) h = let l : suc m ≤ 0 = leb-true _ _ h in absurd (omega arith)
 opposite-le (pos (suc m)) (pos (suc n)) h = let l : suc m ≤ suc n = leb-true _ _ h in le-leb m n (omega arith)
-opposite-le (pos m) (negsuc n) h = let z : _≡_ {A = ℕ} 0 1 = cc in absurd (omega arith)
+opposite-le (pos m) (negsuc n) h = absurd (false≢true h)
 opposite-le (negsuc m) (pos zero) h = le-leb 0 (suc m) (omega arith)
 opposite-le (negsuc m) (pos (suc n)) h = refl
 opposite-le (negsuc m) (negsuc n) h = let l : n ≤ m = leb-true _ _ h in le-leb (suc n) (suc m) (omega arith)
@@ -238,7 +237,7 @@ opposite-lt : (a b : ℤ) → ltZ a b ≡ true → ltZ (negℤ b) (negℤ a) ≡
 opposite-lt (pos m) (pos zero) h = let l : m < 0 = ltb-true _ _ h in absurd (omega arith)
 opposite-lt (pos zero) (pos (suc n)) h = refl
 opposite-lt (pos (suc m)) (pos (suc n)) h = let l : suc m < suc n = ltb-true _ _ h in lt-ltb m n (omega arith)
-opposite-lt (pos m) (negsuc n) h = let z : _≡_ {A = ℕ} 0 1 = cc in absurd (omega arith)
+opposite-lt (pos m) (negsuc n) h = absurd (false≢true h)
 opposite-lt (negsuc m) (pos zero) h = lt-ltb 0 (suc m) (omega arith)
 opposite-lt (negsuc m) (pos (suc n)) h = refl
 opposite-lt (negsuc m) (negsuc n) h = let l : n < m = ltb-true _ _ h in lt-ltb (suc n) (suc m) (omega arith)
@@ -290,10 +289,6 @@ module _ (n : ℤ) (d : ℕ) (b : natAbs n < 2 ^ 62) where
     ceiling-returns r rf re = same rf ∙ re ∙ ap negℤ (same qf ∙ between)
 
 -- ---- a product and a difference
-
-pub large-fits : (z : ℤ) → natAbs z < 2 ^ 63 → SFits w64 z
-large-fits (pos n) h = record { sfits = omega arith }
-large-fits (negsuc n) h = record { sfits = omega arith }
 
 module _ (d : ℕ) (q : ℤ) (f : SFits w64 q) (small : d < 2 ^ 62) (b : natAbs (pos d *ℤ q) < 2 ^ 63) where
   product-is : toZ w64 d *ℤ read q ≡ pos d *ℤ q

@@ -2,9 +2,9 @@
 use mathlib.Core.Path.{_≡_, refl, sym, ap, ap₂, _∙_, subst, subst⁻¹}
 use mathlib.Core.Logic.{_⊎_, inl, inr}
 use mathlib.Core.Bool.{Bool, true, false, not, _&&_}
-use Prim.Native.Nat.{ℕ, suc, _+_, _-_, _*_, _/_, _%_, _^_, _≤_, _<_}
+use Prim.Native.Nat.{ℕ, _+_, _-_, _*_, _%_, _^_, _≤_, _<_}
 use native.Mathlib.Omega.{arith}
-use native.Mathlib.Nat.{mod-lt, add-comm, one-mul, zero-add}
+use native.Mathlib.Nat.{mod-lt, one-mul}
 use native.Mathlib.Decide.{ℕ-discrete}
 use lib.Bits.{bitAnd, and-mask}
 use lib.Dec.{eqb, leb}
@@ -15,15 +15,15 @@ use mir.Syntax.{w64}
 use mir.Val.{Fits, SFits}
 use borrow.Author.Tests.{eq-eqb, ne-eqb, lt-leb}
 use Rattle.convergents.specs.Choice.{if_then_else_}
-use Rattle.slash.specs.Answers.{Outcome, stop, done, _then_, outcome, wordIn, WhenDone}
-use Rattle.slash.specs.Bits.{bit, bitOf, bitCount}
+use Rattle.slash.specs.Answers.{Outcome, stop, done, _then_, wordIn, WhenDone}
+use Rattle.slash.specs.Bits.{bit, bitOf}
 use Rattle.slash.specs.Formats.{known, ofKnown, widthOf, holds}
 use Rattle.slash.specs.Rounding.{rounded}
 use Rattle.slash.specs.Words.{numberOf, numberIn, checkWord, readWord, wordFor, isNan, isOverZero, writeNumber, BestWord}
 use Rattle.slash.specs.Canonical.{HeldParts, HeldValue, CanonicalWord}
-use Rattle.slash.proofs.AnswerLaws.{no-stop, when-checked}
-use Rattle.slash.proofs.BitLaws.{one-shl, pow-next, bit-true, bit-false}
-use Rattle.slash.proofs.FormatLaws.{of-known, known-k, slash-bits-pos, width-fixed, width-floating, width-range, format-limit, fixed-holds, holds-both, holds-floating}
+use Rattle.slash.proofs.AnswerLaws.{no-stop, some-not, when-checked}
+use Rattle.slash.proofs.BitLaws.{one-shl, pow-next}
+use Rattle.slash.proofs.FormatLaws.{of-known, known-k, slash-bits-pos, width-fixed, width-floating, width-range, format-limit, fixed-holds, holds-both, floating-holds, holds-sum}
 use Rattle.slash.proofs.RoundingLaws.{held-exact}
 use Rattle.slash.proofs.WordLaws.{checked-known, checked-number, checked-read}
 use Rattle.slash.proofs.WriteLaws.{write-done, word-best}
@@ -200,8 +200,8 @@ module _ (code : ℕ) (s : Bool) where
 over-exact : (f : Format) (code : ℕ) (v : Value) → HeldValue f v → isOverZero (exactUnary code v) ≡ false
 unfolding HeldValue isOverZero exactUnary reciprocalParts floorParts whole ceilingParts modParts
 over-exact f code (Fraction p) q =
-    let some : (m : ℕ) → 1 ≤ m → eqb m 0 ≡ false = λ m l. let z : m ≡ 0 → ⊥ = λ e. omega arith in ne-eqb _ _ z in
-    by-code code p (λ r. eqb (r .denominator) 0 ≡ false) (some _ (q .some-numerator)) refl refl (λ _. some _ (q .some-denominator)) (some _ (q .some-denominator))
+    by-code code p (λ r. eqb (r .denominator) 0 ≡ false) (some-not _ (q .some-numerator)) refl refl (λ _. some-not _ (q .some-denominator))
+    (some-not _ (q .some-denominator))
 over-exact f code (Zero s) q = by-case code s (λ v. isOverZero v ≡ false) (λ t. refl) (λ t. refl) refl .0
 over-exact f code (Infinity s) q = by-case code s (λ v. isOverZero v ≡ false) (λ t. refl) (λ t. refl) refl .1
 over-exact f code NotANumber q = refl
@@ -322,7 +322,7 @@ module _ (f : Format) (h : known f ≡ true) where
     where
       go : Dec (f .kind ≡ 1) → holds f d n ≡ true
       go (yes k) = let b = fixed-holds f n d k e in holds-both f d n k (omega arith) (omega arith)
-      go (no k) = sym (holds-floating f d n k (bitCount d) (bitCount n) refl refl) ∙ ap (λ (m : ℕ). leb m (f .k)) (add-comm (bitCount d) (bitCount n)) ∙ holds-floating f n d k (bitCount n) (bitCount d) refl refl ∙ e
+      go (no k) = let b = floating-holds f n d k e in holds-sum f d n k (omega arith)
 
   module _ (p : Parts) (q : HeldParts f p) where
     smaller-held : (m c : ℕ) → m ≤ p .numerator → 1 ≤ c → c ≤ p .denominator → rounded f m c .approximate ≡ false

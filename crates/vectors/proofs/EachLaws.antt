@@ -8,7 +8,7 @@ use native.Mathlib.Numerals.{add-one}
 use lib.ListN.{length, take, drop, set, getD, drop-of-length-le}
 use lib.Seq.{drop-cons, take-suc-set, take-all}
 use Rattle.slash.specs.Answers.{Outcome, stop, done, _then_, wordIn, WhenDone}
-use Rattle.slash.proofs.AnswerLaws.{plain-stop}
+use Rattle.slash.proofs.AnswerLaws.{plain-stop, no-stop}
 use Rattle.slash.specs.declared.answer.Stop.{Stop}
 use Rattle.vectors.specs.Each.{atPlace, each, vectorAfter, told, storedOutcome, EachPlace}
 use Rattle.vectors.specs.Vectors.{operands, places}
@@ -103,8 +103,7 @@ module _ {A : Type 0} where
             → each op i (x ∷ xs) ≡ done (map (λ y. wordIn (op y)) (x ∷ xs))
         go (stop n p) e ih =
             let d : stop n i ≡ checks check i (x ∷ xs) = rw (← agree x, e) refl in
-            let z : _≡_ {A = ℕ} 0 1 = cc in
-            absurd (omega arith)
+            absurd (no-stop (d ∙ c))
         go (done w) e ih =
             let d : checks check (suc i) xs ≡ checks check i (x ∷ xs) = rw (← agree x, e) refl in
             rw (e, ih (d ∙ c)) refl
@@ -135,7 +134,7 @@ module _ {A : Type 0} where
           where
             go : (p : Outcome (List ℕ)) → stop (s .number) (s .place) ≡ told p → (stop (s .number) (s .place) ≡ told p) × ((old ≡ vectorAfter p old) × Unit {0})
             go (stop n p) t = (t, (refl, tt))
-            go (done ws) t = let z : _≡_ {A = ℕ} 0 1 = cc in absurd (omega arith)
+            go (done ws) t = absurd (no-stop t)
 
         pub each-done : res ≡ Stored.Done → (new : List ℕ) → new ≡ map (λ x. wordIn (op x)) xs
             → (done tt ≡ told o) × ((new ≡ vectorAfter o old) × EachPlace P xs new)

@@ -88,16 +88,16 @@ pub unary-agrees : (f : Format) (code : ℕ) → known f ≡ true → isUnary co
 unary-agrees f code h i w = told-checked _ _ _ (unary-checked f code w) ∙ sym (check-word f code w h i)
 
 module _ (f : Format) (code : ℕ) (operand out : List ℕ) where
-  module _ (h : known f ≡ true) (i : isUnary code ≡ true) (e : length operand ≡ length out) (res : Stored) (re : storedOutcome res ≡ checks (checkWord f) 0 (operand)) where
+  module _ (h : known f ≡ true) (i : isUnary code ≡ true) (e : length operand ≡ length out) (res : Stored) (re : storedOutcome res ≡ checks (checkWord f) 0 operand) where
     pub unary-each-stopped : (s : Stop) → res ≡ Stored.Stopped s
         → (stop (s .number) (s .place) ≡ told (unaryEach f code operand out)) × ((out ≡ vectorAfter (unaryEach f code operand out) out) × Unit {0})
     unfolding BestUnary
-    unary-each-stopped = each-stopped (unaryWord f code) (checkWord f) (unary-agrees f code h i) (BestUnary f code) (unary-best f code) (operand) out (unaryEach f code operand out) (unary-each-all f code operand out h i e) res re
+    unary-each-stopped = each-stopped (unaryWord f code) (checkWord f) (unary-agrees f code h i) (BestUnary f code) (unary-best f code) operand out (unaryEach f code operand out) (unary-each-all f code operand out h i e) res re
 
-    pub unary-each-done : res ≡ Stored.Done → (new : List ℕ) → new ≡ map (λ x. wordIn (unaryWord f code x)) (operand)
-        → (done tt ≡ told (unaryEach f code operand out)) × ((new ≡ vectorAfter (unaryEach f code operand out) out) × EachPlace (BestUnary f code) (operand) new)
+    pub unary-each-done : res ≡ Stored.Done → (new : List ℕ) → new ≡ map (λ x. wordIn (unaryWord f code x)) operand
+        → (done tt ≡ told (unaryEach f code operand out)) × ((new ≡ vectorAfter (unaryEach f code operand out) out) × EachPlace (BestUnary f code) operand new)
     unfolding BestUnary
-    unary-each-done = each-done (unaryWord f code) (checkWord f) (unary-agrees f code h i) (BestUnary f code) (unary-best f code) (operand) out (unaryEach f code operand out) (unary-each-all f code operand out h i e) res re
+    unary-each-done = each-done (unaryWord f code) (checkWord f) (unary-agrees f code h i) (BestUnary f code) (unary-best f code) operand out (unaryEach f code operand out) (unary-each-all f code operand out h i e) res re
 
 -- ---- conversion
 
@@ -124,13 +124,13 @@ pub convert-agrees : (f g : Format) → known f ≡ true → known g ≡ true �
 convert-agrees f g h i w = told-checked _ _ _ (convert-checked f g w) ∙ sym (check-operand f g w h i)
 
 module _ (f g : Format) (operand out : List ℕ) where
-  module _ (h : known f ≡ true) (i : known g ≡ true) (e : length operand ≡ length out) (res : Stored) (re : storedOutcome res ≡ checks (checkWord f) 0 (operand)) where
+  module _ (h : known f ≡ true) (i : known g ≡ true) (e : length operand ≡ length out) (res : Stored) (re : storedOutcome res ≡ checks (checkWord f) 0 operand) where
     pub convert-each-stopped : (s : Stop) → res ≡ Stored.Stopped s
         → (stop (s .number) (s .place) ≡ told (convertEach f g operand out)) × ((out ≡ vectorAfter (convertEach f g operand out) out) × Unit {0})
     unfolding BestConverted
-    convert-each-stopped = each-stopped (convertWord f g) (checkWord f) (convert-agrees f g h i) (BestConverted f g) (convert-best f g) (operand) out (convertEach f g operand out) (convert-each-all f g operand out h i e) res re
+    convert-each-stopped = each-stopped (convertWord f g) (checkWord f) (convert-agrees f g h i) (BestConverted f g) (convert-best f g) operand out (convertEach f g operand out) (convert-each-all f g operand out h i e) res re
 
-    pub convert-each-done : res ≡ Stored.Done → (new : List ℕ) → new ≡ map (λ x. wordIn (convertWord f g x)) (operand)
-        → (done tt ≡ told (convertEach f g operand out)) × ((new ≡ vectorAfter (convertEach f g operand out) out) × EachPlace (BestConverted f g) (operand) new)
+    pub convert-each-done : res ≡ Stored.Done → (new : List ℕ) → new ≡ map (λ x. wordIn (convertWord f g x)) operand
+        → (done tt ≡ told (convertEach f g operand out)) × ((new ≡ vectorAfter (convertEach f g operand out) out) × EachPlace (BestConverted f g) operand new)
     unfolding BestConverted
-    convert-each-done = each-done (convertWord f g) (checkWord f) (convert-agrees f g h i) (BestConverted f g) (convert-best f g) (operand) out (convertEach f g operand out) (convert-each-all f g operand out h i e) res re
+    convert-each-done = each-done (convertWord f g) (checkWord f) (convert-agrees f g h i) (BestConverted f g) (convert-best f g) operand out (convertEach f g operand out) (convert-each-all f g operand out h i e) res re

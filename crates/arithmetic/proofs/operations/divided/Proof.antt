@@ -1,6 +1,6 @@
 -- `arithmetic::operations::divided` meets its contract. Assumes nothing.
 use Rattle.arithmetic.proofs.BinaryLaws.{divided-none, divided-infinity, divided-some}
-use Rattle.arithmetic.proofs.OperandLaws.{products, Products}
+use Rattle.arithmetic.proofs.OperandLaws.{products}
 use native.Mathlib.Omega.{arith}
 use Rattle.arithmetic.proofs.operations.divided.Statement.{statement}
 use Rattle.arithmetic.proofs.operations.divided.Tie as tie

@@ -1,5 +1,5 @@
 -- `arithmetic::operations::product_parts` meets its contract. Assumes nothing.
-use Rattle.arithmetic.proofs.OperandLaws.{products, Products}
+use Rattle.arithmetic.proofs.OperandLaws.{products}
 use Rattle.arithmetic.specs.Binary.{productParts}
 use mathlib.Core.Path.{refl}
 use native.Mathlib.Omega.{arith}

@@ -1,6 +1,6 @@
 -- `arithmetic::operations::sum_parts` meets its contract. Assumes nothing.
 use Rattle.arithmetic.proofs.BinaryLaws.{parts-sum}
-use Rattle.arithmetic.proofs.OperandLaws.{products, Products}
+use Rattle.arithmetic.proofs.OperandLaws.{products}
 use native.Mathlib.Omega.{arith}
 use borrow.Author.Needs.{needs}
 use Rattle.arithmetic.proofs.operations.sum_parts.Statement.{statement}

@@ -1,6 +1,5 @@
 -- `unary::operation::exact_infinity` meets its contract. Assumes nothing.
 use Rattle.unary.proofs.UnaryLaws.{infinity-reciprocal, infinity-mod, infinity-same}
-use mathlib.Core.Bool.{not}
 use Rattle.unary.proofs.operation.exact_infinity.Statement.{statement}
 use Rattle.unary.proofs.operation.exact_infinity.Tie as tie
 

@@ -2,7 +2,6 @@
 use Rattle.unary.proofs.UnaryLaws.{parts-reciprocal, parts-floor, parts-ceiling, parts-mod, parts-same}
 use Rattle.unary.specs.Unary.{reciprocalParts}
 use mathlib.Core.Path.{_∙_}
-use mathlib.Core.Bool.{not}
 use borrow.Author.Needs.{needs}
 use Rattle.unary.proofs.operation.exact_parts.Statement.{statement}
 use Rattle.unary.proofs.operation.exact_parts.Tie as tie

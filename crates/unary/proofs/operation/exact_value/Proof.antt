@@ -3,7 +3,6 @@ use Rattle.unary.specs.Unary.{exactUnary}
 use Rattle.slash.proofs.AnswerLaws.{at-one}
 use Rattle.slash.specs.declared.number.Value.the-variants.{Fraction}
 use mathlib.Core.Path.{refl, ap}
-use mathlib.Core.Bool.{not}
 use borrow.Author.Needs.{needs}
 use Rattle.unary.proofs.operation.exact_value.Statement.{statement}
 use Rattle.unary.proofs.operation.exact_value.Tie as tie

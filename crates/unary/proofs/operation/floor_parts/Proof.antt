@@ -3,7 +3,6 @@ use Rattle.unary.proofs.UnaryLaws.{whole-small, whole-returns}
 use Rattle.unary.proofs.SignedLaws.{floor-size}
 use Rattle.unary.specs.Floor.{floorBy}
 use Rattle.unary.specs.Unary.{floorParts}
-use mathlib.Core.Bool.{not}
 use borrow.Author.Needs.{needs}
 use Rattle.unary.proofs.operation.floor_parts.Statement.{statement}
 use Rattle.unary.proofs.operation.floor_parts.Tie as tie

@@ -1,7 +1,6 @@
 -- `unary::operation::is_unary` meets its contract. Assumes nothing.
 use Rattle.unary.specs.Unary.{isUnary}
 use mathlib.Core.Path.{refl}
-use mathlib.Core.Bool.{not}
 use Rattle.unary.proofs.operation.is_unary.Statement.{statement}
 use Rattle.unary.proofs.operation.is_unary.Tie as tie
 

@@ -1,7 +1,6 @@
 -- `unary::operation::touch_highest` meets its contract. Assumes nothing.
 use Rattle.unary.specs.Unary.{newSign}
 use Rattle.slash.specs.Bits.{bit, bits}
-use mathlib.Core.Bool.{not}
 use borrow.Author.Needs.{needs}
 use Rattle.unary.proofs.operation.touch_highest.Statement.{statement}
 use Rattle.unary.proofs.operation.touch_highest.Tie as tie

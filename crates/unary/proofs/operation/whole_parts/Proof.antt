@@ -1,6 +1,5 @@
 -- `unary::operation::whole_parts` meets its contract. Assumes nothing.
 use Rattle.unary.proofs.UnaryLaws.{whole-is}
-use mathlib.Core.Bool.{not}
 use borrow.Author.Needs.{needs}
 use Rattle.unary.proofs.operation.whole_parts.Statement.{statement}
 use Rattle.unary.proofs.operation.whole_parts.Tie as tie
