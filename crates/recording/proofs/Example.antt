@@ -12,9 +12,9 @@ use Rattle.recording.specs.Lines.{isDigit, digitsFrom, readMark, lengthB
 use Rattle.recording.specs.Lines.{fields as line-fields}
 use Rattle.recording.specs.Columns.{thousandths, percentage, fractionText, shares, columns}
 use Rattle.breaths.specs.Breaths.{fractionOf}
-use Rattle.recording.specs.Listing.{breathLine, allLine, refusedLine, listingFrom, listingOf}
+use Rattle.recording.specs.Listing.{breathLine, allLine, refusedLine, endLine, withLine, refusal, closing, fromLine, nextOf, listingFrom, listingOn, listingOf}
 use Rattle.recording.specs.Example.{exampleRecording, exampleListing}
 
 pub paper-example : listingOf exampleRecording ≡ exampleListing
-unfolding exampleRecording exampleListing listingOf listingFrom breathLine allLine refusedLine readLine line-fields fromFields fromMarks lengthBefore readMark digitsFrom isDigit columns shares wordOf fractionText percentage thousandths fractionOf breathRatio nightRatio noneLeft withBreath ratioWord isVoid breathOf span decimal decimalFrom hexadecimal hexDigit wordFor pairWord fixedWord fields bitOf pairOf numberOf fixedNumber fixedValue bits bit round lastHeld held convergents recurrence quotients euclid differs holds
+unfolding exampleRecording exampleListing listingOf listingOn listingFrom nextOf fromLine closing refusal withLine endLine breathLine allLine refusedLine readLine line-fields fromFields fromMarks lengthBefore readMark digitsFrom isDigit columns shares wordOf fractionText percentage thousandths fractionOf breathRatio nightRatio noneLeft withBreath ratioWord isVoid breathOf span decimal decimalFrom hexadecimal hexDigit wordFor pairWord fixedWord fields bitOf pairOf numberOf fixedNumber fixedValue bits bit round lastHeld held convergents recurrence quotients euclid differs holds
 paper-example = refl

@@ -3,7 +3,8 @@ pub mod TextLaws
 pub mod ColumnLaws
 pub mod LineLaws
 pub mod StartLaws
+pub mod NightLaws
 pub mod ListingLaws
-pub mod Bounds
+pub mod PieceLaws
 pub mod Marks
 pub mod Example

@@ -66,6 +66,10 @@ module _ {o : List ℕ} {k : ℕ} where
   pub room-as : {t u : List ℕ} → t ≡ u → Room o k t → Room o k u
   room-as e h = subst (λ (v : List ℕ). Room o k v) e h
 
+pub store-none : (o : List ℕ) (k : ℕ) → Stored o k [] o k
+unfolding put
+store-none o k = record { bytes = refl; next = omega arith }
+
 pub store-byte : (o : List ℕ) (k b : ℕ) → Stored o k (b ∷ []) (set o k b) (k + 1)
 unfolding put
 store-byte o k b = record { bytes = refl; next = omega arith }

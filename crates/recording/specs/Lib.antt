@@ -3,6 +3,7 @@ pub mod Text
 pub mod Lines
 pub mod Columns
 pub mod Listing
+pub mod Pieces
 pub mod Example
 pub mod Starts
 pub mod Stores

@@ -1,8 +1,14 @@
-// A night's recording: its lines, and the listing of a whole night.
+// A night's recording: its lines, and its listing, whole or in pieces.
 mod columns;
 mod line;
 mod listing;
+mod night;
+mod piece;
 mod stop;
 mod text;
 
-pub use listing::list;
+pub use night::End;
+pub use night::Night;
+pub use piece::Piece;
+pub use piece::list;
+pub use piece::list_piece;

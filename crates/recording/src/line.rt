@@ -7,11 +7,11 @@ ghost use Rattle.recording.specs.Starts.{Led, Opened, Sought};
 use crate::stop;
 use breaths::Breath;
 
-// The longest line, with its line feed.
-const MOST_BYTES: usize = 33;
+// The longest line of a recording, with its line feed, and of a listing.
+pub(crate) const MOST_BYTES: usize = 33;
 
-// The largest tick mark.
-const MOST_TICKS: u64 = 4294967295;
+// The largest tick mark, and the longest duration.
+pub(crate) const MOST_TICKS: u64 = 4294967295;
 
 // What a field says.
 pub(crate) enum Mark {

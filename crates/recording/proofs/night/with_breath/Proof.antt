@@ -1,9 +1,9 @@
--- `recording::listing::with_breath` meets its contract. Assumes nothing.
+-- `recording::night::with_breath` meets its contract. Assumes nothing.
 use Rattle.breaths.proofs.RatioLaws.{sum-void, sum-good}
 use mathlib.Core.Path.{sym, _∙_}
 use borrow.Author.Needs.{needs}
-use Rattle.recording.proofs.listing.with_breath.Statement.{statement}
-use Rattle.recording.proofs.listing.with_breath.Tie as tie
+use Rattle.recording.proofs.night.with_breath.Statement.{statement}
+use Rattle.recording.proofs.night.with_breath.Tie as tie
 
 is-void-requires : tie.Need-is-void-requires
 is-void-requires c κs = search needs

@@ -1,0 +1,67 @@
+-- Bytes read behind those that a buffer holds, and moved to its front. Assumes nothing.
+use mathlib.Core.Path.{_≡_, refl, sym, ap, _∙_}
+use mathlib.Core.List.{List, [], _++_}
+use Prim.Native.Nat.{ℕ, zero, suc, _+_, _-_, _≤_, _<_}
+use native.Mathlib.Omega.{arith}
+use native.Mathlib.Nat.{zero-add}
+use native.Mathlib.Numerals.{add-one}
+use lib.ListN.{length, getD, set, take, drop, length-append, length-take, length-drop}
+use lib.Seq.{length-take-le, getD-append-add, getD-drop, take-at, paste, paste-zero, paste-suc, length-paste}
+use Rattle.io.specs.Counts.{Counts}
+use Rattle.recording.specs.Listing.{atStart}
+
+pub counts : (n : ℕ) (xs : List ℕ) → n ≤ length xs → Counts n xs
+counts n xs h = (h, omega (arith, length-take n xs, h))
+
+-- the first i of the bytes from a place on are moved
+pub record Moving (bs : List ℕ) (from end size : ℕ) (bs′ : List ℕ) (i : ℕ) : Type 0 where
+  pub within : i ≤ size
+  pub some : from + size ≤ length bs
+  pub bytes : bs′ ≡ paste bs 0 (drop from bs) i
+  pub long : length bs′ ≡ length bs
+
+pub moving-start : (bs : List ℕ) (from end size : ℕ) → from + size ≤ length bs → Moving bs from end size bs 0
+moving-start bs from end size h = record { within = omega arith; some = h; bytes = paste-zero bs 0 (drop from bs); long = refl }
+
+module _ {bs : List ℕ} {from end size : ℕ} {bs′ : List ℕ} {i : ℕ} (m : Moving bs from end size bs′ i) where
+  module _ (l : i < size) where
+    abbrev rest : List ℕ
+    rest = drop from bs
+
+    more : i < length rest
+    more = omega (arith, m .some, length-drop from bs)
+
+    -- the byte to be moved is still in its place
+    moved-byte : getD bs′ (from + i) 0 ≡ getD rest i 0
+    moved-byte =
+        let long : length (take i rest) ≡ i = length-take-le i rest (omega (arith, more)) in
+        let place : from + i ≡ length (take i rest) + from = omega arith in
+        let other : 0 + i + from ≡ from + i = omega arith in
+        ap (λ (x : List ℕ). getD x (from + i) 0) (m .bytes)
+        ∙ ap (λ (j : ℕ). getD (take i rest ++ drop (0 + i) bs) j 0) place
+        ∙ getD-append-add (take i rest) (drop (0 + i) bs) from 0
+        ∙ getD-drop (0 + i) bs from 0
+        ∙ ap (λ (j : ℕ). getD bs j 0) other
+        ∙ sym (getD-drop from bs i 0)
+
+    pub moving-next : Moving bs from end size (set bs′ i (getD bs′ (from + i) 0)) (i + 1)
+    moving-next =
+        let next : set bs′ i (getD bs′ (from + i) 0) ≡ paste bs 0 rest (i + 1) =
+        ap (λ (x : ℕ). set bs′ i x) moved-byte
+        ∙ ap (λ (x : List ℕ). set x i (getD rest i 0)) (m .bytes)
+        ∙ ap (λ (j : ℕ). set (paste bs 0 rest i) j (getD rest i 0)) (sym (zero-add i))
+        ∙ paste-suc bs 0 rest i 0 (omega (arith, m .some)) more
+        ∙ ap (paste bs 0 rest) (sym (add-one i))
+        in
+        record {
+          within = omega arith;
+          some = m .some;
+          bytes = next;
+          long = ap length next ∙ length-paste bs 0 rest (i + 1) (omega (arith, m .some)) (omega (arith, more));
+        }
+
+  pub moving-end : size ≡ end - from → size ≤ i → (i ≡ end - from) × (bs′ ≡ atStart (take (end - from) (drop from bs)) bs)
+  moving-end e l =
+      let done : i ≡ end - from = omega (arith, m .within) in
+      let long : length (take (end - from) (drop from bs)) ≡ 0 + (end - from) = length-take-le (end - from) (drop from bs) (omega (arith, m .some, length-drop from bs)) ∙ sym (zero-add (end - from)) in
+      (done, m .bytes ∙ ap (paste bs 0 (drop from bs)) done ∙ ap (λ (k : ℕ). take (end - from) (drop from bs) ++ drop k bs) (sym long))

@@ -1,0 +1,25 @@
+-- `recording::piece::list_piece` meets its contract. Assumes nothing.
+use Rattle.recording.proofs.PieceLaws.{piece-none}
+use borrow.Author.Tests.{not-true, not-false}
+use mathlib.Core.Path.{sym, _∙_}
+use borrow.Author.Needs.{needs}
+use Rattle.recording.proofs.piece.list_piece.Statement.{statement}
+use Rattle.recording.proofs.piece.list_piece.Tie as tie
+
+is-night-requires : tie.Need-is-night-requires
+is-night-requires c κs = search needs
+
+returns : tie.Need-returns
+returns c = piece-none _ _ _ _ (sym (c .before .is-night .ensures) ∙ not-true _ (c .if1 .taken))
+
+put-lines-requires : tie.Need-put-lines-requires
+put-lines-requires c κs = sym (c .before .before .is-night .ensures) ∙ not-false _ (c .before .if1 .left)
+
+same-length : tie.Need-same-length
+same-length c = search needs
+
+returns-2 : tie.Need-returns-2
+returns-2 c = search needs
+
+pub list-piece-spec : {M : Type 1} → statement M
+list-piece-spec = tie.close (tie.spec is-night-requires returns put-lines-requires same-length returns-2)
