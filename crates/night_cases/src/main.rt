@@ -1,6 +1,7 @@
 // Runs recipes for recordings from standard input, one a line, and writes the listing of each, or
-// its length, checksum and end where it is long. tests/second writes the recipes and what the
-// answers must be.
+// its length, checksum and end where it is long. Each is listed in small pieces too, which must make
+// the same listing. tests/second writes the recipes and what the answers must be.
+mod pieces;
 mod recipe;
 mod show;
 
@@ -21,12 +22,13 @@ fn listing_buffer() -> [u8; 2162719]
     [0; 2162719]
 }
 
-// The listing of the recording that a recipe made.
+// The listing of the recording that a recipe made. Pieces that don't make it are told.
 fn run(r: Recipe, bytes: &[u8], listing: &mut [u8; 2162719]) {
     let n = r.end;
     if n <= bytes.len() {
         let k = recording::list(&bytes[..n], listing);
         show::listing(listing, k);
+        pieces::compare(&bytes[..n], listing, k);
     }
     show::text(b"\n");
 }

@@ -14,6 +14,12 @@ list-requires c κs = search needs
 listing-requires : tie.Need-listing-requires
 listing-requires c κs = search needs
 
+slice-aggregate-compare : tie.Need-slice-aggregate-compare
+slice-aggregate-compare c = sym (length-take-le _ _ (c .before .before .before .before .before .before .before .if1 .taken))
+
+compare-requires : tie.Need-compare-requires
+compare-requires c κs = search needs
+
 slice-aggregate-text : tie.Need-slice-aggregate-text
 slice-aggregate-text c = search needs
 
@@ -30,6 +36,8 @@ run-spec =
     slice-aggregate-list
     list-requires
     listing-requires
+    slice-aggregate-compare
+    compare-requires
     slice-aggregate-text
     text-requires
     returns)
