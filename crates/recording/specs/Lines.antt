@@ -13,6 +13,7 @@ use Rattle.recording.specs.declared.line.Line.the-variants.{Read, Refuse
 
 -- ---- a tick mark
 
+-- A digit, from 0 (byte 48) to 9 (byte 57).
 unfoldable pub isDigit : ℕ → Bool
 isDigit x = leb 48 x && leb x 57
 
@@ -22,7 +23,7 @@ digitsFrom value [] = Tick value
 digitsFrom value (x ∷ xs) =
     elim (isDigit x && leb (value * 10 + (x - 48)) 4294967295) [ true ↦ digitsFrom (value * 10 + (x - 48)) xs | false ↦ Wrong ]
 
--- A decimal tick mark from 0 to 4294967295, no leading zeros.
+-- A decimal tick mark from 0 to 4294967295, no leading zeros: no 0 (byte 48) in front of another digit.
 unfoldable pub readMark : List ℕ → Mark
 readMark [] = Wrong
 readMark (x ∷ xs) = if eqb x 48 && ltb 0 (length xs) then Wrong else digitsFrom 0 (x ∷ xs)
@@ -39,7 +40,7 @@ abbrev pub inFirst : ℕ → List (List ℕ) → List (List ℕ)
 inFirst x [] = (x ∷ []) ∷ []
 inFirst x (first ∷ others) = (x ∷ first) ∷ others
 
--- The fields of a line that tabs part.
+-- The fields of a line, parted by tabs (byte 9).
 unfoldable pub fields : List ℕ → List (List ℕ)
 fields [] = [] ∷ []
 fields (x ∷ xs) = elim (eqb x 9) [ true ↦ [] ∷ fields xs | false ↦ inFirst x (fields xs) ]
@@ -61,8 +62,8 @@ fromFields used (x ∷ y ∷ []) = Refused 10
 fromFields used (x ∷ y ∷ z ∷ []) = fromMarks used (readMark x) (readMark y) (readMark z)
 fromFields used (x ∷ y ∷ z ∷ v ∷ more) = Refused 10
 
--- The line at the start of some bytes: its breath, and how many bytes it uses, its line feed included. Stop 9: over 32 bytes before the line
--- feed, or no line feed.
+-- The line at the start of some bytes: its breath, and how many bytes it uses, its line feed (byte 10) included. Stop 9: over 32 bytes
+-- before the line feed, or no line feed.
 unfoldable pub readLine : List ℕ → Line
 readLine bs =
     let k : ℕ = lengthBefore 10 (take 33 bs) in

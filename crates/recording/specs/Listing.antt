@@ -25,11 +25,11 @@ use Rattle.recording.specs.declared.night.Next.the-variants.{More, Ended
 unfoldable pub breathLine : ℕ → Breath → List ℕ
 breathLine n b = decimal n ++ tab ++ columns (breathRatio b) ++ lineFeed
 
--- The last line: `all`, and the night's columns.
+-- The last line: `all`, and the night's columns. (The bytes of `all` and of a tab.)
 unfoldable pub allLine : Sums → List ℕ
 allLine s = (97 ∷ 108 ∷ 108 ∷ 9 ∷ []) ++ columns (nightRatio s) ++ lineFeed
 
--- `refused`, the stop's number and the line.
+-- `refused`, the stop's number and the line. (The bytes of `refused` and of a tab.)
 unfoldable pub refusedLine : (stop line : ℕ) → List ℕ
 refusedLine stop line = (114 ∷ 101 ∷ 102 ∷ 117 ∷ 115 ∷ 101 ∷ 100 ∷ 9 ∷ []) ++ decimal stop ++ tab ++ decimal line ++ lineFeed
 

@@ -170,7 +170,7 @@ fn read_fields(used: usize, line: &[u8]) -> Line
     )
 }
 
-fn least(a: usize, b: usize) -> usize
+fn min(a: usize, b: usize) -> usize
     ensures { λ r. ⌜ r ≡ min b a ⌝ }
 {
     if a < b { a } else { b }
@@ -180,7 +180,7 @@ fn least(a: usize, b: usize) -> usize
 fn read_any(bytes: &[u8]) -> Line
     ensures { λ r. ⌜ r ≡ readLine (now (bytes .entry)) ⌝ }
 {
-    let most = least(bytes.len(), MOST_BYTES);
+    let most = min(bytes.len(), MOST_BYTES);
     let head = &bytes[..most];
     let k = length_before(head, b'\n');
     if k == head.len() {

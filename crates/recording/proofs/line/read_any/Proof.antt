@@ -8,35 +8,35 @@ use borrow.Author.Needs.{needs}
 use Rattle.recording.proofs.line.read_any.Statement.{statement}
 use Rattle.recording.proofs.line.read_any.Tie as tie
 
-least-requires : tie.Need-least-requires
-least-requires c κs = search needs
+min-requires : tie.Need-min-requires
+min-requires c κs = search needs
 
 slice-aggregate-head : tie.Need-slice-aggregate-head
-slice-aggregate-head c = sym (length-take-le _ _ (omega (arith, c .before .least .ensures)))
+slice-aggregate-head c = sym (length-take-le _ _ (omega (arith, c .before .min .ensures)))
 
 length-before-requires : tie.Need-length-before-requires
 length-before-requires c κs = search needs
 
 returns : tie.Need-returns
-returns c = line-none _ _ (c .before .before .before .least .ensures) _ (c .before .length-before .ensures .1) (c .if1 .taken)
+returns c = line-none _ _ (c .before .before .before .min .ensures) _ (c .before .length-before .ensures .1) (c .if1 .taken)
 
 add-read-fields : tie.Need-add-read-fields
-add-read-fields c = omega (arith, length-take (c .before .before .before .least .result) (c .before .before .before .before .before .args .bytes .now))
+add-read-fields c = omega (arith, length-take (c .before .before .before .min .result) (c .before .before .before .before .before .args .bytes .now))
 
 slice-aggregate-read-fields : tie.Need-slice-aggregate-read-fields
-slice-aggregate-read-fields c = sym (length-take-le _ _ (line-within (c .before .before .before .before .before .before .args .bytes .now) (c .before .before .before .before .least .result) _ (c .before .before .length-before .ensures .0)))
+slice-aggregate-read-fields c = sym (length-take-le _ _ (line-within (c .before .before .before .before .before .before .args .bytes .now) (c .before .before .before .before .min .result) _ (c .before .before .length-before .ensures .0)))
 
 read-fields-requires : tie.Need-read-fields-requires
 read-fields-requires c κs = search needs
 
 returns-2 : tie.Need-returns-2
-returns-2 c = line-some _ _ (c .before .before .before .before .before .least .ensures) _ (c .before .before .before .length-before .ensures .1) (omega (arith, c .before .before .before .length-before .ensures .0)) _ (c .read-fields .ensures)
+returns-2 c = line-some _ _ (c .before .before .before .before .before .min .ensures) _ (c .before .before .before .length-before .ensures .1) (omega (arith, c .before .before .before .length-before .ensures .0)) _ (c .read-fields .ensures)
 
 pub read-any-spec : {M : Type 1} → statement M
 read-any-spec =
     tie.close
     (tie.spec
-    least-requires
+    min-requires
     slice-aggregate-head
     length-before-requires
     returns
