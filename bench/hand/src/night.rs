@@ -88,13 +88,12 @@ impl Listing<'_> {
         self.text(&[b'.', digit(tenths % 10), b'\n']);
     }
 
-    fn refused(&mut self, number: u32, line: u32) -> usize {
+    fn refused(&mut self, number: u32, line: u32) {
         self.text(b"refused\t");
         self.decimal(number);
         self.byte(b'\t');
         self.decimal(line);
         self.byte(b'\n');
-        self.length
     }
 }
 
@@ -103,67 +102,137 @@ fn digit(number: u32) -> u8 {
     b'0' + number as u8
 }
 
-/// Writes the listing of a recording and returns its length.
-#[inline]
-pub fn night(recording: &[u8], bytes: &mut [u8]) -> usize {
-    let mut listing = Listing { bytes, length: 0 };
-    let Ok(stored) = form(1, 15) else {
-        unreachable!()
-    };
-    if recording.is_empty() {
-        return listing.refused(12, 1);
+/// A night that is being listed: the number of its next line, and the sums so far.
+pub struct Night {
+    line: u32,
+    in_sum: u64,
+    whole_sum: u64,
+}
+
+/// What was listed: the bytes that it used, the bytes of text that it stored, and whether it goes on.
+pub struct Piece {
+    pub used: usize,
+    pub length: usize,
+    pub open: bool,
+}
+
+impl Night {
+    pub fn begun() -> Night {
+        Night {
+            line: 1,
+            in_sum: 0,
+            whole_sum: 0,
+        }
     }
-    let (mut rest, mut line) = (recording, 1);
-    let (mut in_sum, mut whole_sum) = (0, 0);
-    while !rest.is_empty() {
-        if line > MOST_LINES {
-            return listing.refused(8, line);
+
+    /// Lists the lines at the start of some bytes, while they are sure to be whole and have room.
+    #[inline]
+    pub fn piece(&mut self, recording: &[u8], last: bool, bytes: &mut [u8]) -> Piece {
+        let Ok(stored) = form(1, 15) else {
+            unreachable!()
+        };
+        let room = bytes.len();
+        let mut listing = Listing { bytes, length: 0 };
+        let mut rest = recording;
+        let mut open = true;
+        while room - listing.length >= MOST_BYTES && (last || rest.len() >= MOST_BYTES) {
+            match self.next(rest) {
+                Next::Breath(inward, whole, used) => {
+                    listing.decimal(self.line);
+                    listing.columns(stored, inward, whole);
+                    if inward <= whole {
+                        self.in_sum += inward;
+                        self.whole_sum += whole;
+                    }
+                    rest = &rest[used..];
+                    self.line += 1;
+                    continue;
+                }
+                Next::All => {
+                    listing.text(b"all");
+                    listing.columns(stored, self.in_sum, self.whole_sum);
+                }
+                Next::Refused(number) => listing.refused(number, self.line),
+            }
+            open = false;
+            break;
+        }
+        Piece {
+            used: recording.len() - rest.len(),
+            length: listing.length,
+            open,
+        }
+    }
+
+    /// What the next line says, from the bytes not yet read.
+    #[inline]
+    fn next(&self, rest: &[u8]) -> Next {
+        if rest.is_empty() {
+            return if self.line == 1 {
+                Next::Refused(12)
+            } else {
+                Next::All
+            };
+        }
+        if self.line > MOST_LINES {
+            return Next::Refused(8);
         }
         let Some(([onset, peak, next], used)) = marks(rest) else {
-            return listing.refused(stop(rest), line);
+            return Next::Refused(stop(rest));
         };
         let inward = u64::from(peak.wrapping_sub(onset));
         let whole = u64::from(next.wrapping_sub(onset));
-        listing.decimal(line);
-        listing.columns(stored, inward, whole);
-        if inward <= whole {
-            in_sum += inward;
-            whole_sum += whole;
-        }
-        rest = &rest[used..];
-        line += 1;
+        Next::Breath(inward, whole, used)
     }
-    listing.text(b"all");
-    listing.columns(stored, in_sum, whole_sum);
-    listing.length
+}
+
+/// A breath's durations and the bytes of its line, or how the listing ends.
+enum Next {
+    Breath(u64, u64, usize),
+    All,
+    Refused(u32),
+}
+
+/// Writes the listing of a recording and returns its length.
+#[inline]
+pub fn night(recording: &[u8], bytes: &mut [u8]) -> usize {
+    Night::begun().piece(recording, true, bytes).length
 }
 
 /// The three tick marks of the line at the start of some bytes, and the bytes that the line uses.
 #[inline]
 fn marks(bytes: &[u8]) -> Option<([u32; 3], usize)> {
-    let (onset, peak_at) = mark(bytes, 0, b'\t')?;
-    let (peak, next_at) = mark(bytes, peak_at, b'\t')?;
-    let (next, used) = mark(bytes, next_at, b'\n')?;
-    (used <= MOST_BYTES).then_some(([onset, peak, next], used))
+    let Some(line) = bytes.first_chunk() else {
+        // The last lines of a recording: no byte behind it ends a mark.
+        let mut line = [0; MOST_BYTES];
+        line[..bytes.len()].copy_from_slice(bytes);
+        return marks_within(&line);
+    };
+    marks_within(line)
 }
 
-/// The tick mark from a place on that the byte `end` ends, and the place behind both.
 #[inline]
-fn mark(bytes: &[u8], from: usize, end: u8) -> Option<(u32, usize)> {
+fn marks_within(line: &[u8; MOST_BYTES]) -> Option<([u32; 3], usize)> {
+    let (onset, peak_at) = mark(line, 0, b'\t')?;
+    let (peak, next_at) = mark(line, peak_at, b'\t')?;
+    let (next, used) = mark(line, next_at, b'\n')?;
+    Some(([onset, peak, next], used))
+}
+
+/// The tick mark from a place on that the byte `end` ends, and the place behind both. Ten digits fit
+/// 64 bits, and no tick mark has more.
+#[inline]
+fn mark(line: &[u8; MOST_BYTES], from: usize, end: u8) -> Option<(u32, usize)> {
     let (mut value, mut at) = (0u64, from);
-    loop {
-        let byte = *bytes.get(at)?;
+    while at < from + 10 && line[at].is_ascii_digit() {
+        value = value * 10 + u64::from(line[at] - b'0');
         at += 1;
-        if !byte.is_ascii_digit() {
-            let digits = at - 1 - from;
-            let good = byte == end && digits > 0 && (digits == 1 || bytes[from] != b'0');
-            return good.then_some((value as u32, at));
-        }
-        value = value * 10 + u64::from(byte - b'0');
-        if value > u64::from(u32::MAX) {
-            return None;
-        }
     }
+    let good = line[at] == end
+        && at > from
+        && value <= u64::from(u32::MAX)
+        && (line[from] != b'0' || at == from + 1);
+    good.then_some((value as u32, at + 1))
 }
 
 /// Why a line that isn't three tick marks is refused.

@@ -9,7 +9,7 @@ use lib.Dec.{eqb}
 use lib.IntN.{ℤ, pos, negℤ, _+ℤ_, _-ℤ_, +ℤ-comm, +ℤ-negℤ-cancel, negℤ-negℤ, negℤ-+ℤ}
 use borrow.Author.Tests.{le-leb, lt-leb, eq-eqb, ne-eqb}
 use Rattle.convergents.specs.Choice.{if_then_else_}
-use Rattle.slash.specs.Answers.{Outcome, stop, done, _then_, wordIn, WhenDone}
+use Rattle.slash.specs.Answers.{Outcome, stop, done, _then_, orZero, WhenDone}
 use Rattle.slash.specs.Formats.{known}
 use Rattle.slash.specs.Signed.{signedOf}
 use Rattle.slash.specs.Words.{numberOf, numberIn, checkWord, readWord, isOverZero, writeNumber, BestWord, isNan}
@@ -24,8 +24,7 @@ use Rattle.slash.specs.declared.number.Value.{Value}
 use Rattle.slash.specs.declared.number.Value.the-variants.{Fraction, Infinity, NotANumber}
 use Rattle.slash.specs.declared.number.Number.{Number}
 use Rattle.arithmetic.specs.Operands.{operandOf, signOf, differ, turned, Small}
-use Rattle.arithmetic.specs.Binary.{sumSize, sumSign, sumParts, sumOf, timesInfinity, productParts, productOf, dividedBy, quotientOf, exactOf, exactValue, isBinary, combined, binaryWord}
-use Rattle.arithmetic.specs.Steps.{checkBinary}
+use Rattle.arithmetic.specs.Binary.{sumSize, sumSign, sumParts, sumOf, timesInfinity, productParts, productOf, dividedBy, quotientOf, exactOf, exactValue, isBinary, combined, binaryStops, binaryWord}
 use Rattle.arithmetic.specs.declared.operand.Operand.{Operand}
 use Rattle.arithmetic.specs.declared.operand.Operand.the-variants.{Finite, Infinite}
 use Rattle.arithmetic.proofs.OperandLaws.{small-turned, checked-small}
@@ -267,20 +266,12 @@ module _ (f : Format) (code left right : ℕ) where
   Good = (checkWord f left ≡ done tt) × (checkWord f right ≡ done tt)
 
   -- a call's stops first, and then its word
-  pub binary-checked : (checkBinary f code left right then λ _. done (combined f code X Y)) ≡ binaryWord f code left right
-  unfolding checkBinary binaryWord readWord
-  binary-checked = go (known f) (isBinary code) (checkWord f left) (checkWord f right)
-    where
-      go : (k b : Bool) (o p : Outcome (Unit {0})) → ((if k then if not b then stop 2 0 else (o then λ _. p) else stop 1 0) then λ _. done (combined f code X Y))
-          ≡ (if k then if not b then stop 2 0 else ((o then λ _. done X) then λ x. (p then λ _. done Y) then λ y. done (combined f code x y)) else stop 1 0)
-      go false b o p = refl
-      go true false o p = refl
-      go true true (stop n i) p = refl
-      go true true (done u) (stop n i) = refl
-      go true true (done u) (done v) = refl
+  pub binary-checked : (binaryStops f code left right then λ _. done (combined f code X Y)) ≡ binaryWord f code left right
+  unfolding binaryWord
+  binary-checked = refl
 
-  pub binary-good : done tt ≡ checkBinary f code left right → Good
-  unfolding checkBinary
+  pub binary-good : done tt ≡ binaryStops f code left right → Good
+  unfolding binaryStops
   binary-good e = go (known f) (isBinary code) (checkWord f left) refl e
     where
       go : (k b : Bool) (o : Outcome (Unit {0})) → checkWord f left ≡ o → done tt ≡ (if k then if not b then stop 2 0 else (o then λ _. checkWord f right) else stop 1 0) → Good
@@ -289,17 +280,17 @@ module _ (f : Format) (code left right : ℕ) where
       go true true (stop n p) i h = absurd (no-stop (sym h))
       go true true (done u) i h = (i, sym h)
 
-  pub check-format : known f ≡ false → stop 1 0 ≡ checkBinary f code left right
-  unfolding checkBinary
+  pub check-format : known f ≡ false → stop 1 0 ≡ binaryStops f code left right
+  unfolding binaryStops
   check-format h = rw h refl
 
   module _ (h : known f ≡ true) where
-    pub check-code : isBinary code ≡ false → stop 2 0 ≡ checkBinary f code left right
-    unfolding checkBinary
+    pub check-code : isBinary code ≡ false → stop 2 0 ≡ binaryStops f code left right
+    unfolding binaryStops
     check-code i = rw (h, i) refl
 
-    pub check-words : isBinary code ≡ true → (checkWord f left then λ _. checkWord f right) ≡ checkBinary f code left right
-    unfolding checkBinary
+    pub check-words : isBinary code ≡ true → (checkWord f left then λ _. checkWord f right) ≡ binaryStops f code left right
+    unfolding binaryStops
     check-words i = rw (h, i) refl
 
   abbrev pub BestHere : ℕ → Type 0
@@ -312,20 +303,20 @@ module _ (f : Format) (code left right : ℕ) where
     -- what is written of the exact result v of two good words, whose values are x and y and whose marks are a and b
     pub good-combined : (x y v : Value) (a b : Bool) (o : Outcome ℕ) (r : ℕ) → x ≡ numberIn f left .value → y ≡ numberIn f right .value
         → v ≡ exactValue code x y → a ≡ numberIn f left .approximate → b ≡ numberIn f right .approximate
-        → o ≡ writeNumber f (record { value = v; approximate = a || b }) → r ≡ wordIn o → (r ≡ combined f code X Y) × BestHere r
-    unfolding combined wordIn
+        → o ≡ writeNumber f (record { value = v; approximate = a || b }) → r ≡ orZero o → (r ≡ combined f code X Y) × BestHere r
+    unfolding combined orZero
     good-combined x y v a b o r xe ye ve ae be oe re =
         let i : numberIn f left ≡ X = checked-number f left (good .0) in
         let j : numberIn f right ≡ Y = checked-number f right (good .1) in
         let e : v ≡ exactValue code (X .value) (Y .value) = rw (ve, xe, ye, i, j) refl in
         let m : (a || b) ≡ (X .approximate || Y .approximate) = rw (ae, be, i, j) refl in
         let z : isOverZero v ≡ false = ap isOverZero e ∙ over-exact code (X .value) (Y .value) (checked-small f left (good .0)) (checked-small f right (good .1)) in
-        let w : r ≡ combined f code X Y = re ∙ ap wordIn (oe ∙ sym (write-done f (record { value = v; approximate = a || b }) (checked-known f left (good .0)) z)) ∙ rw (e, m) refl in
+        let w : r ≡ combined f code X Y = re ∙ ap orZero (oe ∙ sym (write-done f (record { value = v; approximate = a || b }) (checked-known f left (good .0)) z)) ∙ rw (e, m) refl in
         (w, subst⁻¹ BestHere w best-made)
 
   -- what holds of the word that two good words are combined to holds of what `binary` makes
   when-binary : (P : ℕ → Type 0) → (Good → P (combined f code X Y)) → WhenDone (binaryWord f code left right) P
-  when-binary P good = when-checked (checkBinary f code left right) (combined f code X Y) binary-checked P (λ e. good (binary-good e))
+  when-binary P good = when-checked (binaryStops f code left right) (combined f code X Y) binary-checked P (λ e. good (binary-good e))
 
   -- Demand 3, of every word that the four operations make.
   pub binary-best : WhenDone (binaryWord f code left right) BestHere

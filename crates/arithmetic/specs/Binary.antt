@@ -5,7 +5,7 @@ use lib.Dec.{leb, eqb}
 use Rattle.convergents.specs.Choice.{if_then_else_}
 use Rattle.slash.specs.Answers.{Outcome, stop, done, _then_}
 use Rattle.slash.specs.Formats.{whenKnown}
-use Rattle.slash.specs.Words.{readWord, wordFor, isNan}
+use Rattle.slash.specs.Words.{numberOf, checkWord, wordFor, isNan}
 use Rattle.slash.specs.declared.format.Format.{Format}
 use Rattle.slash.specs.declared.number.Parts.{Parts}
 use Rattle.slash.specs.declared.number.Value.{Value}
@@ -98,10 +98,14 @@ unfoldable pub combined : Format → ℕ → Number → Number → ℕ
 combined f code x y = wordFor f (x .approximate || y .approximate) (exactValue code (x .value) (y .value))
 
 -- Stop 1 for the format, 2 for the code, then the words': the left one's, 4 or 5, before the right one's.
-unfoldable pub binaryWord : Format → (code left right : ℕ) → Outcome ℕ
-binaryWord f code left right =
+unfoldable pub binaryStops : Format → (code left right : ℕ) → Outcome (Unit {0})
+binaryStops f code left right =
     whenKnown f (
     if not (isBinary code) then stop 2 0 else
-    readWord f left then λ x.
-    readWord f right then λ y.
-    done (combined f code x y))
+    checkWord f left then λ _.
+    checkWord f right)
+
+unfoldable pub binaryWord : Format → (code left right : ℕ) → Outcome ℕ
+binaryWord f code left right =
+    binaryStops f code left right then λ _.
+    done (combined f code (numberOf f left) (numberOf f right))

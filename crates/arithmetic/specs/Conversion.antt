@@ -3,13 +3,22 @@
 use Prim.Native.Nat.{ℕ}
 use Rattle.slash.specs.Answers.{Outcome, done, _then_}
 use Rattle.slash.specs.Formats.{whenKnown}
-use Rattle.slash.specs.Words.{readWord, wordFor}
+use Rattle.slash.specs.Words.{checkWord, numberOf, wordFor}
 use Rattle.slash.specs.declared.format.Format.{Format}
+use Rattle.slash.specs.declared.number.Number.{Number}
 
 -- Stop 1 for the source format and then for the target's, then 4 and 5.
-unfoldable pub convertWord : (source target : Format) → ℕ → Outcome ℕ
-convertWord source target w =
+unfoldable pub convertStops : (source target : Format) → ℕ → Outcome (Unit {0})
+convertStops source target w =
     whenKnown source (
     whenKnown target (
-    readWord source w then λ x.
-    done (wordFor target (x .approximate) (x .value))))
+    checkWord source w))
+
+-- The word's number, written in the target.
+unfoldable pub converted : (source target : Format) → ℕ → ℕ
+converted source target w = let x : Number = numberOf source w in wordFor target (x .approximate) (x .value)
+
+unfoldable pub convertWord : (source target : Format) → ℕ → Outcome ℕ
+convertWord source target w =
+    convertStops source target w then λ _.
+    done (converted source target w)

@@ -1,11 +1,10 @@
 // Conversion of a word into another format.
 ghost use mathlib.Core.Path.{_≡_};
 ghost use mathlib.Core.Bool.{true};
-ghost use Rattle.slash.specs.Answers.{outcome, checkOutcome, done, wordIn, WhenDone};
-ghost use Rattle.slash.specs.Formats.{known};
-ghost use Rattle.slash.specs.Words.{BestWord, numberOf, checkWord, wordFor};
-ghost use Rattle.arithmetic.specs.Conversion.{convertWord};
-ghost use Rattle.arithmetic.specs.Steps.{checkConvert};
+ghost use Rattle.slash.specs.Answers.{outcome, checkOutcome, done, orZero, WhenDone};
+ghost use Rattle.slash.specs.Formats.{known, formatOf};
+ghost use Rattle.slash.specs.Words.{BestWord, numberOf, checkWord};
+ghost use Rattle.arithmetic.specs.Conversion.{converted, convertStops, convertWord};
 use slash::Answer;
 use slash::Checked;
 use slash::Format;
@@ -14,9 +13,9 @@ use slash::Stop;
 
 // What a good word says, as a word of the target, in numbers that stay in registers.
 fn converted_word(kind: u64, k: u64, tokind: u64, tok: u64, w: u64) -> u64
-    requires { ⌜ (checkWord (record { kind = kind; k = k }) w ≡ done tt) × (known (record { kind = tokind; k = tok }) ≡ true) ⌝ }
-    ensures written { λ r. ⌜ r ≡ wordFor (record { kind = tokind; k = tok }) (numberOf (record { kind = kind; k = k }) w .approximate) (numberOf (record { kind = kind; k = k }) w .value) ⌝ }
-    ensures best { λ r. ⌜ BestWord (record { kind = tokind; k = tok }) (numberOf (record { kind = kind; k = k }) w .value) r ⌝ }
+    requires { ⌜ (checkWord (formatOf kind k) w ≡ done tt) × (known (formatOf tokind tok) ≡ true) ⌝ }
+    ensures written { λ r. ⌜ r ≡ converted (formatOf kind k) (formatOf tokind tok) w ⌝ }
+    ensures best { λ r. ⌜ BestWord (formatOf tokind tok) (numberOf (formatOf kind k) w .value) r ⌝ }
 {
     let source = Format { kind: kind, k: k };
     let target = Format {
@@ -31,12 +30,12 @@ fn converted_word(kind: u64, k: u64, tokind: u64, tok: u64, w: u64) -> u64
             approximate: slash::is_approximate(source, w),
         },
     );
-    written.word()
+    written.or_zero()
 }
 
 // What stops a conversion: a format, the source before the target, or the word.
 fn stops(source: Format, target: Format, w: u64) -> Checked
-    ensures { λ r. ⌜ checkOutcome r ≡ checkConvert source target w ⌝ }
+    ensures { λ r. ⌜ checkOutcome r ≡ convertStops source target w ⌝ }
 {
     if !source.is_known() {
         return Checked::Stopped(Stop::plain(Stop::FORMAT));
@@ -64,9 +63,9 @@ pub fn convert(source: Format, target: Format, w: u64) -> Answer
     }
 }
 
-// The word of `convert` by itself, for a caller that has checked its words; 0 where it stops.
-pub fn converted(source: Format, target: Format, w: u64) -> u64
-    ensures written { λ r. ⌜ r ≡ wordIn (convertWord source target w) ⌝ }
+// The word of `convert`, or 0 where it stops: for a caller that has checked its words.
+pub fn convert_or_zero(source: Format, target: Format, w: u64) -> u64
+    ensures written { λ r. ⌜ r ≡ orZero (convertWord source target w) ⌝ }
     ensures best { λ r. ⌜ WhenDone (convertWord source target w) (λ _. BestWord target (numberOf source w .value) r) ⌝ }
 {
     match stops(source, target, w) {

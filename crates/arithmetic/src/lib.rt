@@ -6,9 +6,9 @@ mod operations;
 mod ordering;
 
 pub use conversion::convert;
-pub use conversion::converted;
+pub use conversion::convert_or_zero;
 pub use operations::binary;
-pub use operations::combined;
+pub use operations::binary_or_zero;
 pub use operations::is_binary;
 pub use ordering::Comparison;
 pub use ordering::Order;

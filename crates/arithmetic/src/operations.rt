@@ -2,11 +2,11 @@
 ghost use mathlib.Core.Path.{_≡_};
 ghost use mathlib.Core.Bool.{true};
 ghost use Prim.Native.Nat.{_<_, _^_};
-ghost use Rattle.slash.specs.Answers.{outcome, checkOutcome, done, wordIn, WhenDone};
+ghost use Rattle.slash.specs.Answers.{outcome, checkOutcome, done, orZero, WhenDone};
+ghost use Rattle.slash.specs.Formats.{formatOf};
 ghost use Rattle.slash.specs.Words.{BestWord, numberOf, checkWord};
 ghost use Rattle.arithmetic.specs.Operands.{Small, operandOf, turned};
-ghost use Rattle.arithmetic.specs.Binary.{sumSize, sumSign, sumParts, sumOf, timesInfinity, productParts, productOf, dividedBy, quotientOf, exactOf, exactValue, isBinary, combined, binaryWord};
-ghost use Rattle.arithmetic.specs.Steps.{checkBinary};
+ghost use Rattle.arithmetic.specs.Binary.{sumSize, sumSign, sumParts, sumOf, timesInfinity, productParts, productOf, dividedBy, quotientOf, exactOf, exactValue, isBinary, combined, binaryStops, binaryWord};
 use crate::operand::Operand;
 use crate::operand::as_operand;
 use crate::operand::sign;
@@ -208,9 +208,9 @@ pub fn is_binary(code: u64) -> bool
 
 // What two good words say, combined and written, in numbers that stay in registers.
 fn combined_word(kind: u64, k: u64, code: u64, left: u64, right: u64) -> u64
-    requires { ⌜ (checkWord (record { kind = kind; k = k }) left ≡ done tt) × (checkWord (record { kind = kind; k = k }) right ≡ done tt) ⌝ }
-    ensures written { λ r. ⌜ r ≡ combined (record { kind = kind; k = k }) code (numberOf (record { kind = kind; k = k }) left) (numberOf (record { kind = kind; k = k }) right) ⌝ }
-    ensures best { λ r. ⌜ BestWord (record { kind = kind; k = k }) (exactValue code (numberOf (record { kind = kind; k = k }) left .value) (numberOf (record { kind = kind; k = k }) right .value)) r ⌝ }
+    requires { ⌜ (checkWord (formatOf kind k) left ≡ done tt) × (checkWord (formatOf kind k) right ≡ done tt) ⌝ }
+    ensures written { λ r. ⌜ r ≡ combined (formatOf kind k) code (numberOf (formatOf kind k) left) (numberOf (formatOf kind k) right) ⌝ }
+    ensures best { λ r. ⌜ BestWord (formatOf kind k) (exactValue code (numberOf (formatOf kind k) left .value) (numberOf (formatOf kind k) right .value)) r ⌝ }
 {
     let f = Format { kind: kind, k: k };
     let v = slash::value(f, left);
@@ -224,12 +224,12 @@ fn combined_word(kind: u64, k: u64, code: u64, left: u64, right: u64) -> u64
             approximate: marked,
         },
     );
-    written.word()
+    written.or_zero()
 }
 
 // What stops a call: its format, its code, the left word or the right one.
 fn stops(f: Format, code: u64, left: u64, right: u64) -> Checked
-    ensures { λ r. ⌜ checkOutcome r ≡ checkBinary f code left right ⌝ }
+    ensures { λ r. ⌜ checkOutcome r ≡ binaryStops f code left right ⌝ }
 {
     if !f.is_known() {
         return Checked::Stopped(Stop::plain(Stop::FORMAT));
@@ -254,9 +254,9 @@ pub fn binary(f: Format, code: u64, left: u64, right: u64) -> Answer
     }
 }
 
-// The word of `binary` by itself, for a caller that has checked its words; 0 where it stops.
-pub fn combined(f: Format, code: u64, left: u64, right: u64) -> u64
-    ensures written { λ r. ⌜ r ≡ wordIn (binaryWord f code left right) ⌝ }
+// The word of `binary`, or 0 where it stops: for a caller that has checked its words.
+pub fn binary_or_zero(f: Format, code: u64, left: u64, right: u64) -> u64
+    ensures written { λ r. ⌜ r ≡ orZero (binaryWord f code left right) ⌝ }
     ensures best { λ r. ⌜ WhenDone (binaryWord f code left right) (λ _. BestWord f (exactValue code (numberOf f left .value) (numberOf f right .value)) r) ⌝ }
 {
     match stops(f, code, left, right) {

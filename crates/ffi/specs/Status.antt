@@ -17,9 +17,6 @@ unfoldable pub behind : Outcome ℕ → ℕ → ℕ
 behind (stop number place) old = old
 behind (done x) old = x
 
-abbrev pub formatOf : (kind k : ℕ) → Format
-formatOf kind k = record { kind = kind; k = k }
-
 -- 0 below, 1 equal, 2 above, 3 unordered.
 unfoldable pub orderNumber : Order → ℕ
 orderNumber Below = 0

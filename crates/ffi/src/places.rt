@@ -1,9 +1,10 @@
 // Calls on vectors.
 ghost use mathlib.Core.Path.{_≡_};
+ghost use Rattle.slash.specs.Formats.{formatOf};
 ghost use Rattle.slash.specs.Answers.{WhenDone};
 ghost use Rattle.vectors.specs.Each.{vectorAfter, EachPlace};
 ghost use Rattle.vectors.specs.Vectors.{places, binaryEach, unaryEach, convertEach, BestBinary, BestUnary, BestConverted};
-ghost use Rattle.ffi.specs.Status.{status, formatOf};
+ghost use Rattle.ffi.specs.Status.{status};
 use crate::status::of_vector;
 use slash::Format;
 

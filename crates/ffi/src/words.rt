@@ -1,6 +1,7 @@
 // Calls on one word or two.
 ghost use mathlib.Core.Path.{_≡_};
 ghost use Prim.Native.Nat.{_≤_};
+ghost use Rattle.slash.specs.Formats.{formatOf};
 ghost use Rattle.slash.specs.Answers.{outcome, done, _then_, WhenDone};
 ghost use Rattle.slash.specs.Words.{numberOf, writeNumber, exactRatio, BestFor, BestWord};
 ghost use Rattle.arithmetic.specs.Binary.{exactValue, binaryWord};
@@ -9,7 +10,7 @@ ghost use Rattle.arithmetic.specs.Conversion.{convertWord};
 ghost use Rattle.unary.specs.Unary.{exactUnary, unaryWord};
 ghost use Rattle.unary.specs.Divisor.{gcdWord};
 ghost use Rattle.unary.specs.Quotients.{wordQuotients, quotientCount, listed};
-ghost use Rattle.ffi.specs.Status.{status, behind, formatOf, orderNumber, compareNumber};
+ghost use Rattle.ffi.specs.Status.{status, behind, orderNumber, compareNumber};
 use crate::status::store;
 use arithmetic::Comparison;
 use arithmetic::Order;

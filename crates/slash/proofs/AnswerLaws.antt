@@ -5,7 +5,7 @@ use Prim.Native.Nat.{ℕ, _≤_}
 use native.Mathlib.Omega.{arith}
 use lib.Dec.{eqb}
 use borrow.Author.Tests.{ne-eqb}
-use Rattle.slash.specs.Answers.{Outcome, stop, done, _then_, wordIn, WhenDone, checkOutcome}
+use Rattle.slash.specs.Answers.{Outcome, stop, done, _then_, orZero, WhenDone, checkOutcome}
 use Rattle.slash.specs.declared.answer.Stop.{Stop}
 use Rattle.slash.specs.declared.reading.Checked.{Checked}
 use Rattle.slash.specs.declared.reading.Checked.the-variants as Checked
@@ -38,13 +38,13 @@ module _ {a : Checked} {o : Outcome (Unit {0})} (h : checkOutcome a ≡ o) where
 
 -- the word of an outcome, and what holds of it where there is one
 module _ (P : ℕ → Type 0) where
-  pub stopped-word : {n p : ℕ} (o : Outcome ℕ) → stop n p ≡ o → (0 ≡ wordIn o) × WhenDone o (λ _. P 0)
-  unfolding wordIn
+  pub stopped-word : {n p : ℕ} (o : Outcome ℕ) → stop n p ≡ o → (0 ≡ orZero o) × WhenDone o (λ _. P 0)
+  unfolding orZero
   stopped-word (stop n p) e = (refl, tt)
   stopped-word (done v) e = absurd (no-stop e)
 
-  pub done-word : {v : ℕ} (o : Outcome ℕ) → done v ≡ o → P v → (v ≡ wordIn o) × WhenDone o (λ _. P v)
-  unfolding wordIn
+  pub done-word : {v : ℕ} (o : Outcome ℕ) → done v ≡ o → P v → (v ≡ orZero o) × WhenDone o (λ _. P v)
+  unfolding orZero
   done-word (stop n p) e h = absurd (no-stop (sym e))
   done-word (done v) e h = (done-inj e, h)
 

@@ -32,9 +32,9 @@ WhenDone (stop number place) P = Unit {0}
 WhenDone (done x) P = P x
 
 -- The word that a call makes; 0 where it stops.
-unfoldable pub wordIn : Outcome ℕ → ℕ
-wordIn (stop number place) = 0
-wordIn (done w) = w
+unfoldable pub orZero : Outcome ℕ → ℕ
+orZero (stop number place) = 0
+orZero (done w) = w
 
 -- The outcome that each answer stands for.
 abbrev pub outcome : Answer → Outcome ℕ

@@ -28,8 +28,11 @@ whenKnown f next = if known f then next else stop 1 0
 unfoldable pub ofKnown : {A : Type 0} → Format → A → Outcome A
 ofKnown f x = whenKnown f (done x)
 
+abbrev pub formatOf : (kind k : ℕ) → Format
+formatOf kind k = record { kind = kind; k = k }
+
 unfoldable pub makeFormat : ℕ → ℕ → Outcome Format
-makeFormat kind k = let f : Format = record { kind = kind; k = k } in ofKnown f f
+makeFormat kind k = ofKnown (formatOf kind k) (formatOf kind k)
 
 -- L: the least whole number with 2^L ≥ k.
 unfoldable pub slashBits : ℕ → ℕ

@@ -1,6 +1,6 @@
 // How every call of the library answers.
 ghost use mathlib.Core.Path.{_≡_};
-ghost use Rattle.slash.specs.Answers.{outcome, wordIn};
+ghost use Rattle.slash.specs.Answers.{outcome, orZero};
 
 // A stop: its number, and its place (an index from 0, a line from 1, else 0).
 pub struct Stop {
@@ -15,9 +15,9 @@ pub enum Answer {
 }
 
 impl Answer {
-    // The number that the call made; 0 where it stopped.
-    pub fn word(self) -> u64
-        ensures { λ r. ⌜ r ≡ wordIn (outcome self) ⌝ }
+    // The number that the call made, or 0 where it stopped.
+    pub fn or_zero(self) -> u64
+        ensures { λ r. ⌜ r ≡ orZero (outcome self) ⌝ }
     {
         match self {
             Answer::Done(n) => n,

@@ -5,7 +5,7 @@ ghost use Prim.Native.Nat.{_≤_};
 ghost use Rattle.convergents.specs.Pairs.{pair};
 ghost use Rattle.convergents.specs.Rounding.{held};
 ghost use Rattle.slash.specs.Answers.{outcome, WhenDone};
-ghost use Rattle.slash.specs.Formats.{known, holds};
+ghost use Rattle.slash.specs.Formats.{known, holds, formatOf};
 ghost use Rattle.slash.specs.Steps.{partsWord};
 ghost use Rattle.slash.specs.Words.{pairWord, nanWord, wordFor, isOverZero, writeNumber, exactRatio, BestFor, BestWord};
 use crate::answer::Answer;
@@ -47,8 +47,8 @@ fn nan_word(f: Format) -> u64
 // its value; n/0 is infinity, 0/0 not-a-number. All of them go by this one way, in numbers that stay
 // in registers.
 fn parts_word(kind: u64, k: u64, negative: bool, approximate: bool, n: u64, d: u64) -> u64
-    requires { ⌜ known (record { kind = kind; k = k }) ≡ true ⌝ }
-    ensures { λ r. ⌜ r ≡ partsWord (record { kind = kind; k = k }) negative approximate n d ⌝ }
+    requires { ⌜ known (formatOf kind k) ≡ true ⌝ }
+    ensures { λ r. ⌜ r ≡ partsWord (formatOf kind k) negative approximate n d ⌝ }
 {
     let f = Format { kind: kind, k: k };
     if d == 0 {

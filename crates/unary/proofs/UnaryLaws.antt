@@ -15,7 +15,7 @@ use mir.Syntax.{w64}
 use mir.Val.{Fits, SFits}
 use borrow.Author.Tests.{eq-eqb, ne-eqb, lt-leb}
 use Rattle.convergents.specs.Choice.{if_then_else_}
-use Rattle.slash.specs.Answers.{Outcome, stop, done, _then_, wordIn, WhenDone}
+use Rattle.slash.specs.Answers.{Outcome, stop, done, _then_, orZero, WhenDone}
 use Rattle.slash.specs.Bits.{bit, bitOf}
 use Rattle.slash.specs.Formats.{known, ofKnown, widthOf, holds}
 use Rattle.slash.specs.Rounding.{rounded}
@@ -36,8 +36,8 @@ use Rattle.slash.specs.declared.number.Number.{Number}
 use Rattle.slash.specs.Signed.{signedOf}
 use Rattle.unary.specs.Floor.{floorBy, ceilingBy, aboveFloor}
 use Rattle.slash.specs.Steps.{SmallParts}
-use Rattle.unary.specs.Steps.{SmallValue, checkUnary}
-use Rattle.unary.specs.Unary.{signBit, withHighest, newSign, signTouched, whole, signedNumerator, reciprocalParts, floorParts, ceilingParts, modParts, exactParts, exactZero, exactInfinity, exactUnary, ExactIn, isUnary, unaryResult, unaryWord}
+use Rattle.unary.specs.Steps.{SmallValue}
+use Rattle.unary.specs.Unary.{signBit, withHighest, newSign, signTouched, whole, signedNumerator, reciprocalParts, floorParts, ceilingParts, modParts, exactParts, exactZero, exactInfinity, exactUnary, ExactIn, isUnary, unaryResult, unaryStops, unaryWord}
 use Rattle.unary.proofs.SignedLaws.{read, same, small-fits, of-read, signed-size, test-is, floor-size, ceiling-size, above-lt, above-le}
 
 -- ---- the highest bit of a word
@@ -66,12 +66,12 @@ module _ (h w : ℕ) (l : h < 64) where
 
 -- the width that a format tells
 module _ (f : Format) (known-it : known f ≡ true) (o : Outcome ℕ) (told : o ≡ ofKnown f (widthOf f)) where
-  pub width-word : (n : ℕ) → n ≡ wordIn o → n ≡ widthOf f
-  unfolding wordIn
-  width-word n e = e ∙ ap wordIn (told ∙ sym (of-known f (widthOf f) known-it))
+  pub width-word : (n : ℕ) → n ≡ orZero o → n ≡ widthOf f
+  unfolding orZero
+  width-word n e = e ∙ ap orZero (told ∙ sym (of-known f (widthOf f) known-it))
 
   -- a word has from 4 to 64 bits
-  pub width-some : (n : ℕ) → n ≡ wordIn o → (4 ≤ n) × (n ≤ 64)
+  pub width-some : (n : ℕ) → n ≡ orZero o → (4 ≤ n) × (n ≤ 64)
   width-some n e = go (ℕ-discrete (f .kind) 1)
     where
       go : Dec (f .kind ≡ 1) → (4 ≤ n) × (n ≤ 64)
@@ -248,31 +248,24 @@ module _ (f : Format) (code w : ℕ) (c : checkWord f w ≡ done tt) (v : Value)
   good-touched r t e = made r (e ∙ rw (test t) refl)
 
   pub good-written : (o : Outcome ℕ) (y : Value) (a : Bool) (r : ℕ) → b ≡ false → y ≡ exactUnary code v → a ≡ numberIn f w .approximate
-      → o ≡ writeNumber f (record { value = y; approximate = a }) → r ≡ wordIn o → Made r
-  unfolding unaryResult wordIn
+      → o ≡ writeNumber f (record { value = y; approximate = a }) → r ≡ orZero o → Made r
+  unfolding unaryResult orZero
   good-written o y a r t e ae oe re =
       let ye : y ≡ exactUnary code (X .value) = e ∙ ap (exactUnary code) value-is in
       let me : a ≡ X .approximate = ae ∙ ap (λ (x : Number). x .approximate) (checked-number f w c) in
       let exact : Number = record { value = exactUnary code (X .value); approximate = X .approximate } in
       let same : writeNumber f (record { value = y; approximate = a }) ≡ writeNumber f exact = rw (ye, me) refl in
       let written : done (wordFor f (exact .approximate) (exact .value)) ≡ writeNumber f exact = write-done f exact (checked-known f w c) (over-exact f code (X .value) held) in
-      made r (re ∙ ap wordIn (oe ∙ same ∙ sym written) ∙ rw (test t) refl)
+      made r (re ∙ ap orZero (oe ∙ same ∙ sym written) ∙ rw (test t) refl)
 
 -- a call's stops first, and then its word
 module _ (f : Format) (code w : ℕ) where
-  pub unary-checked : (checkUnary f code w then λ _. done (unaryResult f code w (numberOf f w))) ≡ unaryWord f code w
-  unfolding checkUnary unaryWord readWord
-  unary-checked = go (known f) (isUnary code) (checkWord f w)
-    where
-      go : (k u : Bool) (o : Outcome (Unit {0})) → ((if k then if not u then stop 2 0 else o else stop 1 0) then λ _. done (unaryResult f code w (numberOf f w)))
-          ≡ (if k then if not u then stop 2 0 else ((o then λ _. done (numberOf f w)) then λ x. done (unaryResult f code w x)) else stop 1 0)
-      go false u o = refl
-      go true false o = refl
-      go true true (stop n p) = refl
-      go true true (done x) = refl
+  pub unary-checked : (unaryStops f code w then λ _. done (unaryResult f code w (numberOf f w))) ≡ unaryWord f code w
+  unfolding unaryWord
+  unary-checked = refl
 
-  pub unary-good : done tt ≡ checkUnary f code w → checkWord f w ≡ done tt
-  unfolding checkUnary
+  pub unary-good : done tt ≡ unaryStops f code w → checkWord f w ≡ done tt
+  unfolding unaryStops
   unary-good e = go (known f) (isUnary code) e
     where
       go : (k u : Bool) → done tt ≡ (if k then if not u then stop 2 0 else checkWord f w else stop 1 0) → checkWord f w ≡ done tt
@@ -280,22 +273,22 @@ module _ (f : Format) (code w : ℕ) where
       go true false h = absurd (no-stop (sym h))
       go true true h = sym h
 
-  pub check-format : known f ≡ false → stop 1 0 ≡ checkUnary f code w
-  unfolding checkUnary
+  pub check-format : known f ≡ false → stop 1 0 ≡ unaryStops f code w
+  unfolding unaryStops
   check-format h = rw h refl
 
-  pub check-code : known f ≡ true → isUnary code ≡ false → stop 2 0 ≡ checkUnary f code w
-  unfolding checkUnary
+  pub check-code : known f ≡ true → isUnary code ≡ false → stop 2 0 ≡ unaryStops f code w
+  unfolding unaryStops
   check-code h i = rw (h, i) refl
 
-  pub check-word : known f ≡ true → isUnary code ≡ true → checkWord f w ≡ checkUnary f code w
-  unfolding checkUnary
+  pub check-word : known f ≡ true → isUnary code ≡ true → checkWord f w ≡ unaryStops f code w
+  unfolding unaryStops
   check-word h i = rw (h, i) refl
 
 module _ (f : Format) (code w : ℕ) where
   -- what holds of the word that a code makes of a good word holds of what `unary` makes
   pub when-unary : (P : ℕ → Type 0) → (checkWord f w ≡ done tt → P (unaryResult f code w (numberOf f w))) → WhenDone (unaryWord f code w) P
-  when-unary P good = when-checked (checkUnary f code w) (unaryResult f code w (numberOf f w)) (unary-checked f code w) P (λ e. good (unary-good f code w e))
+  when-unary P good = when-checked (unaryStops f code w) (unaryResult f code w (numberOf f w)) (unary-checked f code w) P (λ e. good (unary-good f code w e))
 
   held-number : checkWord f w ≡ done tt → HeldValue f (numberOf f w .value)
   held-number c = read-held f (checked-known f w c) w (numberOf f w) (checked-read f w c)

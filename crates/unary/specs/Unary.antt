@@ -10,7 +10,7 @@ use Rattle.slash.specs.Bits.{bit, bitOf}
 use Rattle.slash.specs.Formats.{widthOf, whenKnown}
 use Rattle.slash.specs.Rounding.{rounded}
 use Rattle.slash.specs.Signed.{signedOf}
-use Rattle.slash.specs.Words.{readWord, wordFor, isNan}
+use Rattle.slash.specs.Words.{numberOf, checkWord, wordFor, isNan}
 use Rattle.slash.specs.declared.format.Format.{Format}
 use Rattle.slash.specs.declared.number.Parts.{Parts}
 use Rattle.slash.specs.declared.number.Value.{Value}
@@ -118,9 +118,13 @@ unaryResult f code w x =
     wordFor f (x .approximate) (exactUnary code (x .value))
 
 -- Stop 1 for the format, 2 for the code, then the word's.
-unfoldable pub unaryWord : Format → (code w : ℕ) → Outcome ℕ
-unaryWord f code w =
+unfoldable pub unaryStops : Format → (code w : ℕ) → Outcome (Unit {0})
+unaryStops f code w =
     whenKnown f (
     if not (isUnary code) then stop 2 0 else
-    readWord f w then λ x.
-    done (unaryResult f code w x))
+    checkWord f w)
+
+unfoldable pub unaryWord : Format → (code w : ℕ) → Outcome ℕ
+unaryWord f code w =
+    unaryStops f code w then λ _.
+    done (unaryResult f code w (numberOf f w))

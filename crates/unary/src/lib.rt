@@ -8,5 +8,5 @@ mod signed;
 pub use divisor::gcd;
 pub use expansion::quotients;
 pub use operation::is_unary;
-pub use operation::result;
 pub use operation::unary;
+pub use operation::unary_or_zero;

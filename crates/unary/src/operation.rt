@@ -3,14 +3,14 @@ ghost use mathlib.Core.Path.{_≡_};
 ghost use mathlib.Core.Bool.{true};
 ghost use Prim.Native.Nat.{_≤_, _<_, _^_};
 ghost use lib.IntN.{natAbs};
-ghost use Rattle.slash.specs.Answers.{outcome, checkOutcome, done, wordIn, WhenDone};
+ghost use Rattle.slash.specs.Answers.{outcome, checkOutcome, done, orZero, WhenDone};
 ghost use Rattle.slash.specs.Bits.{bit};
 ghost use Rattle.slash.specs.Canonical.{HeldValue};
-ghost use Rattle.slash.specs.Formats.{known};
+ghost use Rattle.slash.specs.Formats.{known, formatOf};
 ghost use Rattle.slash.specs.Words.{BestWord, numberOf, checkWord};
 ghost use Rattle.slash.specs.Steps.{SmallParts};
-ghost use Rattle.unary.specs.Steps.{SmallValue, checkUnary};
-ghost use Rattle.unary.specs.Unary.{withHighest, newSign, signTouched, whole, floorParts, ceilingParts, modParts, exactParts, exactZero, exactInfinity, exactUnary, isUnary, unaryResult, unaryWord};
+ghost use Rattle.unary.specs.Steps.{SmallValue};
+ghost use Rattle.unary.specs.Unary.{withHighest, newSign, signTouched, whole, floorParts, ceilingParts, modParts, exactParts, exactZero, exactInfinity, exactUnary, isUnary, unaryResult, unaryStops, unaryWord};
 use crate::signed;
 use slash::Answer;
 use slash::Checked;
@@ -59,7 +59,7 @@ fn touch_sign(f: Format, code: u64, w: u64) -> u64
     ensures { λ r. ⌜ r ≡ signTouched f code w ⌝ }
 {
     let width = f.width();
-    touch_highest(width.word() - 1, code, w)
+    touch_highest(width.or_zero() - 1, code, w)
 }
 
 fn whole_parts(n: i64) -> Parts
@@ -170,9 +170,9 @@ pub fn is_unary(code: u64) -> bool
 
 // What a code makes of a good word, in numbers that stay in registers.
 fn result_word(kind: u64, k: u64, code: u64, w: u64) -> u64
-    requires { ⌜ checkWord (record { kind = kind; k = k }) w ≡ done tt ⌝ }
-    ensures written { λ r. ⌜ r ≡ unaryResult (record { kind = kind; k = k }) code w (numberOf (record { kind = kind; k = k }) w) ⌝ }
-    ensures best { λ r. ⌜ (3 ≤ code → BestWord (record { kind = kind; k = k }) (exactUnary code (numberOf (record { kind = kind; k = k }) w .value)) r) ⌝ }
+    requires { ⌜ checkWord (formatOf kind k) w ≡ done tt ⌝ }
+    ensures written { λ r. ⌜ r ≡ unaryResult (formatOf kind k) code w (numberOf (formatOf kind k) w) ⌝ }
+    ensures best { λ r. ⌜ (3 ≤ code → BestWord (formatOf kind k) (exactUnary code (numberOf (formatOf kind k) w .value)) r) ⌝ }
 {
     let f = Format { kind: kind, k: k };
     let v = slash::value(f, w);
@@ -187,12 +187,12 @@ fn result_word(kind: u64, k: u64, code: u64, w: u64) -> u64
             approximate: slash::is_approximate(f, w),
         },
     );
-    written.word()
+    written.or_zero()
 }
 
 // What stops a call: its format, its code or its word.
 fn stops(f: Format, code: u64, w: u64) -> Checked
-    ensures { λ r. ⌜ checkOutcome r ≡ checkUnary f code w ⌝ }
+    ensures { λ r. ⌜ checkOutcome r ≡ unaryStops f code w ⌝ }
 {
     if !f.is_known() {
         return Checked::Stopped(Stop::plain(Stop::FORMAT));
@@ -215,9 +215,9 @@ pub fn unary(f: Format, code: u64, w: u64) -> Answer
     }
 }
 
-// The word of `unary` by itself, for a caller that has checked its words; 0 where it stops.
-pub fn result(f: Format, code: u64, w: u64) -> u64
-    ensures written { λ r. ⌜ r ≡ wordIn (unaryWord f code w) ⌝ }
+// The word of `unary`, or 0 where it stops: for a caller that has checked its words.
+pub fn unary_or_zero(f: Format, code: u64, w: u64) -> u64
+    ensures written { λ r. ⌜ r ≡ orZero (unaryWord f code w) ⌝ }
     ensures best { λ r. ⌜ WhenDone (unaryWord f code w) (λ _. 3 ≤ code → BestWord f (exactUnary code (numberOf f w .value)) r) ⌝ }
 {
     match stops(f, code, w) {

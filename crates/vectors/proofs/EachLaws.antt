@@ -7,7 +7,7 @@ use native.Mathlib.Nat.{not-suc-le-zero, le-of-suc-le-suc}
 use native.Mathlib.Numerals.{add-one}
 use lib.ListN.{length, take, drop, set, getD, drop-of-length-le}
 use lib.Seq.{drop-cons, take-suc-set, take-all}
-use Rattle.slash.specs.Answers.{Outcome, stop, done, _then_, wordIn, WhenDone}
+use Rattle.slash.specs.Answers.{Outcome, stop, done, _then_, orZero, WhenDone}
 use Rattle.slash.proofs.AnswerLaws.{plain-stop, no-stop}
 use Rattle.slash.specs.declared.answer.Stop.{Stop}
 use Rattle.vectors.specs.Each.{atPlace, each, vectorAfter, told, storedOutcome, EachPlace}
@@ -94,13 +94,13 @@ module _ {A : Type 0} where
         go (stop n p) e ih = rw (← agree x, e) refl
         go (done w) e ih = rw (← agree x, e) (told-word (each op (suc i) xs) (λ ws. w ∷ ws) ∙ ih)
 
-    each-words : (i : ℕ) (xs : List A) → checks check i xs ≡ done tt → each op i xs ≡ done (map (λ x. wordIn (op x)) xs)
-    unfolding told each checks atPlace wordIn
+    each-words : (i : ℕ) (xs : List A) → checks check i xs ≡ done tt → each op i xs ≡ done (map (λ x. orZero (op x)) xs)
+    unfolding told each checks atPlace orZero
     each-words i [] c = refl
     each-words i (x ∷ xs) c = go (op x) refl (each-words (suc i) xs)
       where
-        go : (o : Outcome ℕ) → op x ≡ o → (checks check (suc i) xs ≡ done tt → each op (suc i) xs ≡ done (map (λ y. wordIn (op y)) xs))
-            → each op i (x ∷ xs) ≡ done (map (λ y. wordIn (op y)) (x ∷ xs))
+        go : (o : Outcome ℕ) → op x ≡ o → (checks check (suc i) xs ≡ done tt → each op (suc i) xs ≡ done (map (λ y. orZero (op y)) xs))
+            → each op i (x ∷ xs) ≡ done (map (λ y. orZero (op y)) (x ∷ xs))
         go (stop n p) e ih =
             let d : stop n i ≡ checks check i (x ∷ xs) = rw (← agree x, e) refl in
             absurd (no-stop (d ∙ c))
@@ -136,7 +136,7 @@ module _ {A : Type 0} where
             go (stop n p) t = (t, (refl, tt))
             go (done ws) t = absurd (no-stop t)
 
-        pub each-done : res ≡ Stored.Done → (new : List ℕ) → new ≡ map (λ x. wordIn (op x)) xs
+        pub each-done : res ≡ Stored.Done → (new : List ℕ) → new ≡ map (λ x. orZero (op x)) xs
             → (done tt ≡ told o) × ((new ≡ vectorAfter o old) × EachPlace P xs new)
         unfolding told vectorAfter
         each-done e new ne =

@@ -6,7 +6,7 @@ use mathlib.Core.List.{List, map}
 use Prim.Native.Nat.{ℕ}
 use lib.ListN.{length}
 use borrow.Author.Tests.{eq-eqb, ne-eqb}
-use Rattle.slash.specs.Answers.{stop, done, wordIn}
+use Rattle.slash.specs.Answers.{stop, done, orZero}
 use Rattle.slash.specs.declared.answer.Stop.{Stop}
 use Rattle.slash.specs.Formats.{known}
 use Rattle.slash.specs.Words.{checkWord}
@@ -94,7 +94,7 @@ module _ (f : Format) (code : ℕ) (operand out : List ℕ) where
     unfolding BestUnary
     unary-each-stopped = each-stopped (unaryWord f code) (checkWord f) (unary-agrees f code h i) (BestUnary f code) (unary-best f code) operand out (unaryEach f code operand out) (unary-each-all f code operand out h i e) res re
 
-    pub unary-each-done : res ≡ Stored.Done → (new : List ℕ) → new ≡ map (λ x. wordIn (unaryWord f code x)) operand
+    pub unary-each-done : res ≡ Stored.Done → (new : List ℕ) → new ≡ map (λ x. orZero (unaryWord f code x)) operand
         → (done tt ≡ told (unaryEach f code operand out)) × ((new ≡ vectorAfter (unaryEach f code operand out) out) × EachPlace (BestUnary f code) operand new)
     unfolding BestUnary
     unary-each-done = each-done (unaryWord f code) (checkWord f) (unary-agrees f code h i) (BestUnary f code) (unary-best f code) operand out (unaryEach f code operand out) (unary-each-all f code operand out h i e) res re
@@ -130,7 +130,7 @@ module _ (f g : Format) (operand out : List ℕ) where
     unfolding BestConverted
     convert-each-stopped = each-stopped (convertWord f g) (checkWord f) (convert-agrees f g h i) (BestConverted f g) (convert-best f g) operand out (convertEach f g operand out) (convert-each-all f g operand out h i e) res re
 
-    pub convert-each-done : res ≡ Stored.Done → (new : List ℕ) → new ≡ map (λ x. wordIn (convertWord f g x)) operand
+    pub convert-each-done : res ≡ Stored.Done → (new : List ℕ) → new ≡ map (λ x. orZero (convertWord f g x)) operand
         → (done tt ≡ told (convertEach f g operand out)) × ((new ≡ vectorAfter (convertEach f g operand out) out) × EachPlace (BestConverted f g) operand new)
     unfolding BestConverted
     convert-each-done = each-done (convertWord f g) (checkWord f) (convert-agrees f g h i) (BestConverted f g) (convert-best f g) operand out (convertEach f g operand out) (convert-each-all f g operand out h i e) res re

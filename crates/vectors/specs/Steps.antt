@@ -1,7 +1,7 @@
 -- Steps of the code on its way to what the papers say; no part of that.
 use Prim.Native.Nat.{ℕ, suc}
 use mathlib.Core.List.{List, [], _∷_}
-use Rattle.slash.specs.Answers.{Outcome, done, _then_, wordIn}
+use Rattle.slash.specs.Answers.{Outcome, done, _then_, orZero}
 use Rattle.slash.specs.Words.{checkWord}
 use Rattle.slash.specs.declared.format.Format.{Format}
 use Rattle.arithmetic.specs.Binary.{binaryWord}
@@ -21,4 +21,4 @@ checkOperands f x = checkWord f (x .left) then λ _. checkWord f (x .right)
 
 -- What is stored for the words at a place.
 unfoldable pub binaryIn : Format → ℕ → Operands → ℕ
-binaryIn f code x = wordIn (binaryWord f code (x .left) (x .right))
+binaryIn f code x = orZero (binaryWord f code (x .left) (x .right))

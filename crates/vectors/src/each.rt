@@ -2,7 +2,7 @@
 ghost use mathlib.Core.Path.{_≡_};
 ghost use mathlib.Core.List.{map};
 ghost use lib.ListN.{length};
-ghost use Rattle.slash.specs.Answers.{wordIn, WhenDone};
+ghost use Rattle.slash.specs.Answers.{orZero, WhenDone};
 ghost use Rattle.arithmetic.specs.Conversion.{convertWord};
 ghost use Rattle.unary.specs.Unary.{unaryWord};
 ghost use Rattle.vectors.specs.Each.{vectorAfter, told, storedOutcome, EachPlace};
@@ -20,29 +20,29 @@ fn store_binary(f: Format, code: u64, left: &[u64], right: &[u64], out: &mut [u6
 {
     let mut i = 0;
     while i < left.len() {
-        out[i] = arithmetic::combined(f, code, left[i], right[i]);
+        out[i] = arithmetic::binary_or_zero(f, code, left[i], right[i]);
         i += 1;
     }
 }
 
 fn store_unary(f: Format, code: u64, operand: &[u64], out: &mut [u64])
     requires { ⌜ length (now operand) ≡ length (now out) ⌝ }
-    ensures { λ _. ⌜ now (out .exit) ≡ map (λ x. wordIn (unaryWord f code x)) (now (operand .entry)) ⌝ }
+    ensures { λ _. ⌜ now (out .exit) ≡ map (λ x. orZero (unaryWord f code x)) (now (operand .entry)) ⌝ }
 {
     let mut i = 0;
     while i < operand.len() {
-        out[i] = unary::result(f, code, operand[i]);
+        out[i] = unary::unary_or_zero(f, code, operand[i]);
         i += 1;
     }
 }
 
 fn store_converted(source: Format, target: Format, operand: &[u64], out: &mut [u64])
     requires { ⌜ length (now operand) ≡ length (now out) ⌝ }
-    ensures { λ _. ⌜ now (out .exit) ≡ map (λ x. wordIn (convertWord source target x)) (now (operand .entry)) ⌝ }
+    ensures { λ _. ⌜ now (out .exit) ≡ map (λ x. orZero (convertWord source target x)) (now (operand .entry)) ⌝ }
 {
     let mut i = 0;
     while i < operand.len() {
-        out[i] = arithmetic::converted(source, target, operand[i]);
+        out[i] = arithmetic::convert_or_zero(source, target, operand[i]);
         i += 1;
     }
 }

@@ -1,11 +1,33 @@
-//! Standard input's recording, listed on standard output.
+//! Standard input's recording, listed on standard output piece by piece as it comes.
 
+use hand::night::Night;
+use std::fs::File;
 use std::io::{self, Read, Write};
+use std::mem::ManuallyDrop;
+use std::os::fd::FromRawFd;
 
 fn main() -> io::Result<()> {
-    let mut recording = Vec::new();
-    io::stdin().lock().read_to_end(&mut recording)?;
-    let mut listing = vec![0; hand::night::LISTING_BYTES];
-    let length = hand::night::night(&recording, &mut listing);
-    io::stdout().lock().write_all(&listing[..length])
+    // SAFETY: the program's own standard input and output, which are not closed here.
+    let (mut input, mut output) = unsafe {
+        (
+            ManuallyDrop::new(File::from_raw_fd(0)),
+            ManuallyDrop::new(File::from_raw_fd(1)),
+        )
+    };
+    let (mut bytes, mut text) = ([0; 16384], [0; 32768]);
+    let (mut night, mut held, mut last) = (Night::begun(), 0, false);
+    loop {
+        if !last {
+            let count = input.read(&mut bytes[held..])?;
+            held += count;
+            last = count == 0;
+        }
+        let piece = night.piece(&bytes[..held], last, &mut text);
+        output.write_all(&text[..piece.length])?;
+        if !piece.open {
+            return Ok(());
+        }
+        bytes.copy_within(piece.used..held, 0);
+        held -= piece.used;
+    }
 }

@@ -4,8 +4,6 @@ use Rattle.slash.proofs.AnswerLaws.{told-stop, told-good, checked-stop, checked
 use borrow.Author.Needs.{needs}
 use Rattle.arithmetic.proofs.conversion.convert.Statement.{statement}
 use Rattle.arithmetic.proofs.conversion.convert.Tie as tie
-use Rattle.arithmetic.proofs.conversion.converted_word.Reads as converted-word-reads
-use Rattle.arithmetic.proofs.conversion.stops.Reads as stops-reads
 
 stops-requires : tie.Need-stops-requires
 stops-requires c κs = search needs

@@ -4,8 +4,6 @@ use Rattle.slash.proofs.AnswerLaws.{told-stop, told-good, checked-stop, checked
 use borrow.Author.Needs.{needs}
 use Rattle.arithmetic.proofs.operations.binary.Statement.{statement}
 use Rattle.arithmetic.proofs.operations.binary.Tie as tie
-use Rattle.arithmetic.proofs.operations.combined_word.Reads as combined-word-reads
-use Rattle.arithmetic.proofs.operations.stops.Reads as stops-reads
 
 stops-requires : tie.Need-stops-requires
 stops-requires c κs = search needs

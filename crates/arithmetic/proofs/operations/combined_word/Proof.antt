@@ -4,11 +4,6 @@ use Rattle.arithmetic.proofs.OperandLaws.{checked-operand}
 use borrow.Author.Needs.{needs}
 use Rattle.arithmetic.proofs.operations.combined_word.Statement.{statement}
 use Rattle.arithmetic.proofs.operations.combined_word.Tie as tie
-use Rattle.arithmetic.proofs.operations.exact_value.Reads as exact-value-reads
-use Rattle.slash.proofs.answer.Answer.word.Reads as word-reads
-use Rattle.slash.proofs.is_approximate.Reads as is-approximate-reads
-use Rattle.slash.proofs.value.Reads as value-reads
-use Rattle.slash.proofs.write.Reads as write-reads
 
 value-requires : tie.Need-value-requires
 value-requires c κs = search needs
@@ -28,11 +23,11 @@ is-approximate-requires-2 c κs = search needs
 write-requires : tie.Need-write-requires
 write-requires c κs = search needs
 
-word-requires : tie.Need-word-requires
-word-requires c κs = search needs
+or-zero-requires : tie.Need-or-zero-requires
+or-zero-requires c κs = search needs
 
 returns : tie.Need-returns
-returns c = good-combined _ _ _ _ (c .before .before .before .before .before .before .before .pre) _ _ _ _ _ _ _ (c .before .before .before .before .before .before .value .ensures) (c .before .before .before .before .before .value2 .ensures) (c .before .before .before .before .exact-value .ensures) (c .before .before .before .is-approximate .ensures) (c .before .before .is-approximate2 .ensures) (c .before .write .ensures .0) (c .word .ensures)
+returns c = good-combined _ _ _ _ (c .before .before .before .before .before .before .before .pre) _ _ _ _ _ _ _ (c .before .before .before .before .before .before .value .ensures) (c .before .before .before .before .before .value2 .ensures) (c .before .before .before .before .exact-value .ensures) (c .before .before .before .is-approximate .ensures) (c .before .before .is-approximate2 .ensures) (c .before .write .ensures .0) (c .or-zero .ensures)
 
 pub combined-word-spec : {M : Type 1} → statement M
 combined-word-spec =
@@ -44,5 +39,5 @@ combined-word-spec =
     is-approximate-requires
     is-approximate-requires-2
     write-requires
-    word-requires
+    or-zero-requires
     returns)

@@ -6,10 +6,6 @@ use mathlib.Core.Path.{sym, _∙_}
 use borrow.Author.Needs.{needs}
 use Rattle.arithmetic.proofs.operations.stops.Statement.{statement}
 use Rattle.arithmetic.proofs.operations.stops.Tie as tie
-use Rattle.arithmetic.proofs.operations.is_binary.Reads as is-binary-reads
-use Rattle.slash.proofs.answer.Stop.plain.Reads as plain-reads
-use Rattle.slash.proofs.format.Format.is_known.Reads as is-known-reads
-use Rattle.slash.proofs.check.Reads as check-reads
 
 is-known-requires : tie.Need-is-known-requires
 is-known-requires c κs = search needs

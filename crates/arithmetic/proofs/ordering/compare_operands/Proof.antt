@@ -6,8 +6,6 @@ use mathlib.Core.Path.{refl, _∙_}
 use borrow.Author.Needs.{needs}
 use Rattle.arithmetic.proofs.ordering.compare_operands.Statement.{statement}
 use Rattle.arithmetic.proofs.ordering.compare_operands.Tie as tie
-use Rattle.arithmetic.proofs.ordering.compare_parts.Reads as compare-parts-reads
-use Rattle.arithmetic.proofs.ordering.outside_all.Reads as outside-all-reads
 
 enum-known-x : tie.Need-enum-known-x
 enum-known-x c = search needs

@@ -4,7 +4,6 @@ use Rattle.arithmetic.specs.Comparison.{compareOf}
 use native.Mathlib.Omega.{arith}
 use Rattle.arithmetic.proofs.ordering.compare_parts.Statement.{statement}
 use Rattle.arithmetic.proofs.ordering.compare_parts.Tie as tie
-use Rattle.arithmetic.proofs.ordering.signed_order.Reads as signed-order-reads
 
 mul-signed-order : tie.Need-mul-signed-order
 mul-signed-order c = omega (arith, products (c .before .before .pre .0) (c .before .before .pre .1))

@@ -8,8 +8,6 @@ use mathlib.Core.Path.{refl, subst}
 use borrow.Author.Needs.{needs}
 use Rattle.arithmetic.proofs.ordering.compare_values.Statement.{statement}
 use Rattle.arithmetic.proofs.ordering.compare_values.Tie as tie
-use Rattle.arithmetic.proofs.ordering.compare_any.Reads as compare-any-reads
-use Rattle.arithmetic.proofs.ordering.compare_parts.Reads as compare-parts-reads
 
 enum-known-v : tie.Need-enum-known-v
 enum-known-v c = search needs

@@ -1,6 +1,6 @@
 -- `ffi::words::slash_binary` meets its contract. Assumes nothing.
 use Rattle.ffi.proofs.StatusLaws.{stored-best}
-use Rattle.ffi.specs.Status.{formatOf}
+use Rattle.slash.specs.Formats.{formatOf}
 use Rattle.arithmetic.proofs.BinaryLaws.{binary-best}
 use borrow.Author.Needs.{needs}
 use Rattle.ffi.proofs.words.slash_binary.Statement.{statement}

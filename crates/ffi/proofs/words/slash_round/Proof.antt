@@ -2,7 +2,7 @@
 use Rattle.ffi.proofs.StatusLaws.{stored-best}
 use Rattle.slash.specs.Answers.{Outcome, WhenDone}
 use Rattle.slash.specs.Words.{BestFor}
-use Rattle.ffi.specs.Status.{formatOf}
+use Rattle.slash.specs.Formats.{formatOf}
 use Prim.Native.Nat.{ℕ}
 use mathlib.Core.Path.{subst}
 use borrow.Author.Needs.{needs}

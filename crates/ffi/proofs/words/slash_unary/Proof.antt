@@ -1,6 +1,6 @@
 -- `ffi::words::slash_unary` meets its contract. Assumes nothing.
 use Rattle.ffi.proofs.StatusLaws.{stored-best}
-use Rattle.ffi.specs.Status.{formatOf}
+use Rattle.slash.specs.Formats.{formatOf}
 use Rattle.unary.proofs.UnaryLaws.{unary-best}
 use borrow.Author.Needs.{needs}
 use Rattle.ffi.proofs.words.slash_unary.Statement.{statement}

@@ -7,13 +7,6 @@ use lib.Dec.{leb}
 use borrow.Author.Needs.{needs}
 use Rattle.unary.proofs.operation.result_word.Statement.{statement}
 use Rattle.unary.proofs.operation.result_word.Tie as tie
-use Rattle.slash.proofs.answer.Answer.word.Reads as word-reads
-use Rattle.slash.proofs.is_nan.Reads as is-nan-reads
-use Rattle.slash.proofs.is_approximate.Reads as is-approximate-reads
-use Rattle.slash.proofs.value.Reads as value-reads
-use Rattle.slash.proofs.write.Reads as write-reads
-use Rattle.unary.proofs.operation.exact_value.Reads as exact-value-reads
-use Rattle.unary.proofs.operation.touch_sign.Reads as touch-sign-reads
 
 value-requires : tie.Need-value-requires
 value-requires c κs = search needs
@@ -37,12 +30,12 @@ is-approximate-requires c κs = search needs
 write-requires : tie.Need-write-requires
 write-requires c κs = search needs
 
-word-requires : tie.Need-word-requires
-word-requires c κs = search needs
+or-zero-requires : tie.Need-or-zero-requires
+or-zero-requires c κs = search needs
 
 returns-2 : tie.Need-returns-2
 returns-2 c = let marked : Bool → Bool = λ b. leb (c .before .before .before .before .before .before .before .args .code) 2 && not b in
-    good-written _ _ _ (c .before .before .before .before .before .before .before .pre) _ (c .before .before .before .before .before .before .value .ensures) _ (ap marked (c .before .before .before .before .before .is-nan .ensures)) _ _ _ _ (c .before .before .before .before .if1 .left) (c .before .before .before .exact-value .ensures) (c .before .before .is-approximate .ensures) (c .before .write .ensures .0) (c .word .ensures)
+    good-written _ _ _ (c .before .before .before .before .before .before .before .pre) _ (c .before .before .before .before .before .before .value .ensures) _ (ap marked (c .before .before .before .before .before .is-nan .ensures)) _ _ _ _ (c .before .before .before .before .if1 .left) (c .before .before .before .exact-value .ensures) (c .before .before .is-approximate .ensures) (c .before .write .ensures .0) (c .or-zero .ensures)
 
 pub result-word-spec : {M : Type 1} → statement M
 result-word-spec =
@@ -55,5 +48,5 @@ result-word-spec =
     exact-value-requires
     is-approximate-requires
     write-requires
-    word-requires
+    or-zero-requires
     returns-2)

@@ -6,10 +6,6 @@ use mathlib.Core.Path.{sym, _∙_}
 use borrow.Author.Needs.{needs}
 use Rattle.unary.proofs.operation.stops.Statement.{statement}
 use Rattle.unary.proofs.operation.stops.Tie as tie
-use Rattle.slash.proofs.answer.Stop.plain.Reads as plain-reads
-use Rattle.slash.proofs.format.Format.is_known.Reads as is-known-reads
-use Rattle.slash.proofs.check.Reads as check-reads
-use Rattle.unary.proofs.operation.is_unary.Reads as is-unary-reads
 
 is-known-requires : tie.Need-is-known-requires
 is-known-requires c κs = search needs

@@ -4,8 +4,6 @@ use Rattle.slash.proofs.AnswerLaws.{told-stop, told-good, checked-stop, checked
 use borrow.Author.Needs.{needs}
 use Rattle.unary.proofs.operation.unary.Statement.{statement}
 use Rattle.unary.proofs.operation.unary.Tie as tie
-use Rattle.unary.proofs.operation.result_word.Reads as result-word-reads
-use Rattle.unary.proofs.operation.stops.Reads as stops-reads
 
 stops-requires : tie.Need-stops-requires
 stops-requires c κs = search needs

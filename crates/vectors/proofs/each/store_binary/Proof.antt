@@ -20,20 +20,20 @@ abbrev μ-loop : tie.MeasureT-loop
 loop-holds : tie.Need-loop-holds Inv-loop μ-loop
 loop-holds c = (omega arith, refl, refl)
 
-mul-combined : tie.Need-mul-combined Inv-loop μ-loop
-mul-combined c = search needs
+mul-binary-or-zero : tie.Need-mul-binary-or-zero Inv-loop μ-loop
+mul-binary-or-zero c = search needs
 
-shared-slice-read-combined : tie.Need-shared-slice-read-combined Inv-loop μ-loop
-shared-slice-read-combined c = search needs
+shared-slice-read-binary-or-zero : tie.Need-shared-slice-read-binary-or-zero Inv-loop μ-loop
+shared-slice-read-binary-or-zero c = search needs
 
-mul-combined-2 : tie.Need-mul-combined-2 Inv-loop μ-loop
-mul-combined-2 c = search needs
+mul-binary-or-zero-2 : tie.Need-mul-binary-or-zero-2 Inv-loop μ-loop
+mul-binary-or-zero-2 c = search needs
 
-shared-slice-read-combined-2 : tie.Need-shared-slice-read-combined-2 Inv-loop μ-loop
-shared-slice-read-combined-2 c = search needs
+shared-slice-read-binary-or-zero-2 : tie.Need-shared-slice-read-binary-or-zero-2 Inv-loop μ-loop
+shared-slice-read-binary-or-zero-2 c = search needs
 
-combined-requires : tie.Need-combined-requires Inv-loop μ-loop
-combined-requires c κs = search needs
+binary-or-zero-requires : tie.Need-binary-or-zero-requires Inv-loop μ-loop
+binary-or-zero-requires c κs = search needs
 
 mul-out : tie.Need-mul-out Inv-loop μ-loop
 mul-out c = search needs
@@ -57,7 +57,7 @@ loop-again c =
       simp length-set (at .inv .1),
       store-next (binaryIn (start .args .f) (start .args .code)) (places (start .args .left .now) (start .args .right .now)) (at .out) (at .i) _ _
           (operands-at (start .args .left .now) (start .args .right .now) (at .i) (start .pre .0) below) (omega (arith, below, start .pre .1, at .inv .1))
-          (c .combined .ensures .0)
+          (c .binary-or-zero .ensures .0)
           ∙ at .inv .2,
     )
 
@@ -81,11 +81,11 @@ store-binary-spec =
     Inv-loop
     μ-loop
     loop-holds
-    mul-combined
-    shared-slice-read-combined
-    mul-combined-2
-    shared-slice-read-combined-2
-    combined-requires
+    mul-binary-or-zero
+    shared-slice-read-binary-or-zero
+    mul-binary-or-zero-2
+    shared-slice-read-binary-or-zero-2
+    binary-or-zero-requires
     mul-out
     slice-write-out
     add-i

@@ -1,6 +1,6 @@
 -- `vectors::each::store_converted` meets its contract. Assumes nothing.
 use Rattle.vectors.proofs.EachLaws.{word-at, store-next, store-end}
-use Rattle.slash.specs.Answers.{wordIn}
+use Rattle.slash.specs.Answers.{orZero}
 use Rattle.arithmetic.specs.Conversion.{convertWord}
 use borrow.Author.Needs.{needs}
 use native.Mathlib.Omega.{arith}
@@ -12,7 +12,7 @@ use Rattle.vectors.proofs.each.store_converted.Statement.{statement}
 use Rattle.vectors.proofs.each.store_converted.Tie as tie
 
 abbrev Inv-loop : tie.InvT-loop
-Inv-loop source target operand out₀ i₀ out i = (i ≤ length operand) × (length out ≡ length out₀) × (take i out ++ map (λ x. wordIn (convertWord source target x)) (drop i operand) ≡ map (λ x. wordIn (convertWord source target x)) operand)
+Inv-loop source target operand out₀ i₀ out i = (i ≤ length operand) × (length out ≡ length out₀) × (take i out ++ map (λ x. orZero (convertWord source target x)) (drop i operand) ≡ map (λ x. orZero (convertWord source target x)) operand)
 
 abbrev μ-loop : tie.MeasureT-loop
 μ-loop source target operand out₀ i₀ out i = length operand - i
@@ -20,14 +20,14 @@ abbrev μ-loop : tie.MeasureT-loop
 loop-holds : tie.Need-loop-holds Inv-loop μ-loop
 loop-holds c = (omega arith, refl, refl)
 
-mul-converted : tie.Need-mul-converted Inv-loop μ-loop
-mul-converted c = search needs
+mul-convert-or-zero : tie.Need-mul-convert-or-zero Inv-loop μ-loop
+mul-convert-or-zero c = search needs
 
-shared-slice-read-converted : tie.Need-shared-slice-read-converted Inv-loop μ-loop
-shared-slice-read-converted c = search needs
+shared-slice-read-convert-or-zero : tie.Need-shared-slice-read-convert-or-zero Inv-loop μ-loop
+shared-slice-read-convert-or-zero c = search needs
 
-converted-requires : tie.Need-converted-requires Inv-loop μ-loop
-converted-requires c κs = search needs
+convert-or-zero-requires : tie.Need-convert-or-zero-requires Inv-loop μ-loop
+convert-or-zero-requires c κs = search needs
 
 mul-out : tie.Need-mul-out Inv-loop μ-loop
 mul-out c = search needs
@@ -48,8 +48,8 @@ loop-again c =
     let below = c .before .before .loop-test .taken in (
       omega arith,
       simp length-set (at .inv .1),
-      store-next (λ (x : ℕ). wordIn (convertWord (start .args .source) (start .args .target) x)) (start .args .operand .now) (at .out) (at .i) _ _ (word-at (start .args .operand .now) (at .i) below)
-          (omega (arith, below, start .pre, at .inv .1)) (c .converted .ensures .0)
+      store-next (λ (x : ℕ). orZero (convertWord (start .args .source) (start .args .target) x)) (start .args .operand .now) (at .out) (at .i) _ _ (word-at (start .args .operand .now) (at .i) below)
+          (omega (arith, below, start .pre, at .inv .1)) (c .convert-or-zero .ensures .0)
           ∙ at .inv .2,
     )
 
@@ -60,7 +60,7 @@ returns : tie.Need-returns Inv-loop μ-loop
 returns c =
     let start = c .before .before .before .before in
     let at = c .before .loop in
-    sym (store-end (λ (x : ℕ). wordIn (convertWord (start .args .source) (start .args .target) x)) (start .args .operand .now) (at .out) (at .i) (c .loop-test .left) (omega (arith, c .loop-test .left, start .pre, at .inv .1))) ∙ at .inv .2
+    sym (store-end (λ (x : ℕ). orZero (convertWord (start .args .source) (start .args .target) x)) (start .args .operand .now) (at .out) (at .i) (c .loop-test .left) (omega (arith, c .loop-test .left, start .pre, at .inv .1))) ∙ at .inv .2
 
 pub store-converted-spec : {M : Type 1} → statement M
 store-converted-spec =
@@ -69,9 +69,9 @@ store-converted-spec =
     Inv-loop
     μ-loop
     loop-holds
-    mul-converted
-    shared-slice-read-converted
-    converted-requires
+    mul-convert-or-zero
+    shared-slice-read-convert-or-zero
+    convert-or-zero-requires
     mul-out
     slice-write-out
     add-i

@@ -1,6 +1,6 @@
 -- `vectors::each::store_unary` meets its contract. Assumes nothing.
 use Rattle.vectors.proofs.EachLaws.{word-at, store-next, store-end}
-use Rattle.slash.specs.Answers.{wordIn}
+use Rattle.slash.specs.Answers.{orZero}
 use Rattle.unary.specs.Unary.{unaryWord}
 use borrow.Author.Needs.{needs}
 use native.Mathlib.Omega.{arith}
@@ -12,7 +12,7 @@ use Rattle.vectors.proofs.each.store_unary.Statement.{statement}
 use Rattle.vectors.proofs.each.store_unary.Tie as tie
 
 abbrev Inv-loop : tie.InvT-loop
-Inv-loop f code operand out₀ i₀ out i = (i ≤ length operand) × (length out ≡ length out₀) × (take i out ++ map (λ x. wordIn (unaryWord f code x)) (drop i operand) ≡ map (λ x. wordIn (unaryWord f code x)) operand)
+Inv-loop f code operand out₀ i₀ out i = (i ≤ length operand) × (length out ≡ length out₀) × (take i out ++ map (λ x. orZero (unaryWord f code x)) (drop i operand) ≡ map (λ x. orZero (unaryWord f code x)) operand)
 
 abbrev μ-loop : tie.MeasureT-loop
 μ-loop f code operand out₀ i₀ out i = length operand - i
@@ -20,14 +20,14 @@ abbrev μ-loop : tie.MeasureT-loop
 loop-holds : tie.Need-loop-holds Inv-loop μ-loop
 loop-holds c = (omega arith, refl, refl)
 
-mul-result : tie.Need-mul-result Inv-loop μ-loop
-mul-result c = search needs
+mul-unary-or-zero : tie.Need-mul-unary-or-zero Inv-loop μ-loop
+mul-unary-or-zero c = search needs
 
-shared-slice-read-result : tie.Need-shared-slice-read-result Inv-loop μ-loop
-shared-slice-read-result c = search needs
+shared-slice-read-unary-or-zero : tie.Need-shared-slice-read-unary-or-zero Inv-loop μ-loop
+shared-slice-read-unary-or-zero c = search needs
 
-result-requires : tie.Need-result-requires Inv-loop μ-loop
-result-requires c κs = search needs
+unary-or-zero-requires : tie.Need-unary-or-zero-requires Inv-loop μ-loop
+unary-or-zero-requires c κs = search needs
 
 mul-out : tie.Need-mul-out Inv-loop μ-loop
 mul-out c = search needs
@@ -48,8 +48,8 @@ loop-again c =
     let below = c .before .before .loop-test .taken in (
       omega arith,
       simp length-set (at .inv .1),
-      store-next (λ (x : ℕ). wordIn (unaryWord (start .args .f) (start .args .code) x)) (start .args .operand .now) (at .out) (at .i) _ _ (word-at (start .args .operand .now) (at .i) below)
-          (omega (arith, below, start .pre, at .inv .1)) (c .result .ensures .0)
+      store-next (λ (x : ℕ). orZero (unaryWord (start .args .f) (start .args .code) x)) (start .args .operand .now) (at .out) (at .i) _ _ (word-at (start .args .operand .now) (at .i) below)
+          (omega (arith, below, start .pre, at .inv .1)) (c .unary-or-zero .ensures .0)
           ∙ at .inv .2,
     )
 
@@ -60,7 +60,7 @@ returns : tie.Need-returns Inv-loop μ-loop
 returns c =
     let start = c .before .before .before .before in
     let at = c .before .loop in
-    sym (store-end (λ (x : ℕ). wordIn (unaryWord (start .args .f) (start .args .code) x)) (start .args .operand .now) (at .out) (at .i) (c .loop-test .left) (omega (arith, c .loop-test .left, start .pre, at .inv .1))) ∙ at .inv .2
+    sym (store-end (λ (x : ℕ). orZero (unaryWord (start .args .f) (start .args .code) x)) (start .args .operand .now) (at .out) (at .i) (c .loop-test .left) (omega (arith, c .loop-test .left, start .pre, at .inv .1))) ∙ at .inv .2
 
 pub store-unary-spec : {M : Type 1} → statement M
 store-unary-spec =
@@ -69,9 +69,9 @@ store-unary-spec =
     Inv-loop
     μ-loop
     loop-holds
-    mul-result
-    shared-slice-read-result
-    result-requires
+    mul-unary-or-zero
+    shared-slice-read-unary-or-zero
+    unary-or-zero-requires
     mul-out
     slice-write-out
     add-i

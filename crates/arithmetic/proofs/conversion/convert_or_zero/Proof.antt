@@ -1,11 +1,9 @@
--- `arithmetic::conversion::converted` meets its contract. Assumes nothing.
+-- `arithmetic::conversion::convert_or_zero` meets its contract. Assumes nothing.
 use Rattle.arithmetic.proofs.ConversionLaws.{BestHere, convert-checked, convert-good}
 use Rattle.slash.proofs.AnswerLaws.{told-stop, told-good, checked-stop, checked-made, stopped-word, done-word}
 use borrow.Author.Needs.{needs}
-use Rattle.arithmetic.proofs.conversion.converted.Statement.{statement}
-use Rattle.arithmetic.proofs.conversion.converted.Tie as tie
-use Rattle.arithmetic.proofs.conversion.converted_word.Reads as converted-word-reads
-use Rattle.arithmetic.proofs.conversion.stops.Reads as stops-reads
+use Rattle.arithmetic.proofs.conversion.convert_or_zero.Statement.{statement}
+use Rattle.arithmetic.proofs.conversion.convert_or_zero.Tie as tie
 
 stops-requires : tie.Need-stops-requires
 stops-requires c κs = search needs
@@ -25,7 +23,7 @@ returns c = stopped-word (BestHere (c .before .before .before .args .source) (c 
 returns-2 : tie.Need-returns-2
 returns-2 c = done-word (BestHere (c .before .before .before .before .args .source) (c .before .before .before .before .args .target) (c .before .before .before .before .args .w)) _ (checked-made _ _ (convert-checked _ _ _) (told-good (c .before .before .before .stops .ensures) (c .before .enum-told2 .given .1)) (c .converted-word .ensures .0)) (c .converted-word .ensures .1)
 
-pub converted-spec : {M : Type 1} → statement M
-converted-spec =
+pub convert-or-zero-spec : {M : Type 1} → statement M
+convert-or-zero-spec =
     tie.close
     (tie.spec stops-requires enum-told enum-told-2 converted-word-requires returns returns-2)

@@ -1,11 +1,9 @@
--- `unary::operation::result` meets its contract. Assumes nothing.
+-- `unary::operation::unary_or_zero` meets its contract. Assumes nothing.
 use Rattle.unary.proofs.UnaryLaws.{BestHere, unary-checked, unary-good}
 use Rattle.slash.proofs.AnswerLaws.{told-stop, told-good, checked-stop, checked-made, stopped-word, done-word}
 use borrow.Author.Needs.{needs}
-use Rattle.unary.proofs.operation.result.Statement.{statement}
-use Rattle.unary.proofs.operation.result.Tie as tie
-use Rattle.unary.proofs.operation.result_word.Reads as result-word-reads
-use Rattle.unary.proofs.operation.stops.Reads as stops-reads
+use Rattle.unary.proofs.operation.unary_or_zero.Statement.{statement}
+use Rattle.unary.proofs.operation.unary_or_zero.Tie as tie
 
 stops-requires : tie.Need-stops-requires
 stops-requires c κs = search needs
@@ -25,7 +23,7 @@ returns c = stopped-word (BestHere (c .before .before .before .args .f) (c .befo
 returns-2 : tie.Need-returns-2
 returns-2 c = done-word (BestHere (c .before .before .before .before .args .f) (c .before .before .before .before .args .code) (c .before .before .before .before .args .w)) _ (checked-made _ _ (unary-checked _ _ _) (told-good (c .before .before .before .stops .ensures) (c .before .enum-told2 .given .1)) (c .result-word .ensures .0)) (c .result-word .ensures .1)
 
-pub result-spec : {M : Type 1} → statement M
-result-spec =
+pub unary-or-zero-spec : {M : Type 1} → statement M
+unary-or-zero-spec =
     tie.close
     (tie.spec stops-requires enum-told enum-told-2 result-word-requires returns returns-2)

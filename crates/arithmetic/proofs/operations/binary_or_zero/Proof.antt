@@ -1,11 +1,9 @@
--- `arithmetic::operations::combined` meets its contract. Assumes nothing.
+-- `arithmetic::operations::binary_or_zero` meets its contract. Assumes nothing.
 use Rattle.arithmetic.proofs.BinaryLaws.{BestHere, binary-checked, binary-good}
 use Rattle.slash.proofs.AnswerLaws.{told-stop, told-good, checked-stop, checked-made, stopped-word, done-word}
 use borrow.Author.Needs.{needs}
-use Rattle.arithmetic.proofs.operations.combined.Statement.{statement}
-use Rattle.arithmetic.proofs.operations.combined.Tie as tie
-use Rattle.arithmetic.proofs.operations.combined_word.Reads as combined-word-reads
-use Rattle.arithmetic.proofs.operations.stops.Reads as stops-reads
+use Rattle.arithmetic.proofs.operations.binary_or_zero.Statement.{statement}
+use Rattle.arithmetic.proofs.operations.binary_or_zero.Tie as tie
 
 stops-requires : tie.Need-stops-requires
 stops-requires c κs = search needs
@@ -25,7 +23,7 @@ returns c = stopped-word (BestHere (c .before .before .before .args .f) (c .befo
 returns-2 : tie.Need-returns-2
 returns-2 c = done-word (BestHere (c .before .before .before .before .args .f) (c .before .before .before .before .args .code) (c .before .before .before .before .args .left) (c .before .before .before .before .args .right)) _ (checked-made _ _ (binary-checked _ _ _ _) (told-good (c .before .before .before .stops .ensures) (c .before .enum-told2 .given .1)) (c .combined-word .ensures .0)) (c .combined-word .ensures .1)
 
-pub combined-spec : {M : Type 1} → statement M
-combined-spec =
+pub binary-or-zero-spec : {M : Type 1} → statement M
+binary-or-zero-spec =
     tie.close
     (tie.spec stops-requires enum-told enum-told-2 combined-word-requires returns returns-2)
