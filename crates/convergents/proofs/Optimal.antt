@@ -117,9 +117,6 @@ module _ (holds : ℕ → ℕ → Bool) where
   unfolding held
   one-held = refl
 
-  pub zero-held : Limit holds → held holds (pair 0 1) ≡ true
-  zero-held lim = held-is 0 1 (omega arith) ∙ lim .downward 1 1 0 1 (lim .one) (omega arith) (omega arith) (omega arith)
-
   -- a pair that is held: 1/0, or one that the limit holds
   cases : (r s : ℕ) → held holds (pair r s) ≡ true → ((r ≡ 1) × (s ≡ 0)) ⊎ ((1 ≤ s) × (holds r s ≡ true))
   unfolding held
@@ -178,3 +175,6 @@ module _ (holds : ℕ → ℕ → Bool) where
 
     pub last-best : (x : Pair) → Last N D x → Best holds N D x
     last-best x w = record { isHeld = last-is-held x w; better = last-better x w }
+
+  pub zero-held : Limit holds → held holds (pair 0 1) ≡ true
+  zero-held lim = held-is 0 1 (omega arith) ∙ lim .downward 1 1 0 1 (lim .one) (omega arith) (omega arith) (omega arith)

@@ -33,6 +33,12 @@ module _ (o : Outcome ℕ) (a : Answer) (e : outcome a ≡ o) where
       go (stop n i) w g = tt
       go (done x) w g = subst P (sym (g ∙ behind-done x old)) w
 
+-- the same of an answer that comes with its demand 3
+pub stored-made : (o : Outcome ℕ) (a : Answer) (P : ℕ → Type 0) → (outcome a ≡ o) × WhenDone (outcome a) P
+    → (r old new : ℕ) → (r ≡ status (outcome a)) × (new ≡ behind (outcome a) old)
+    → (r ≡ status o) × ((new ≡ behind o old) × WhenDone o (λ _. P new))
+stored-made o a P m = stored-best o a (m .0) P (subst (λ (p : Outcome ℕ). WhenDone p P) (m .0) (m .1))
+
 -- a stop's status, and none
 pub status-stop : (a : Answer) (s : Stop) (r old : ℕ) → a ≡ Answer.Stopped s → r ≡ s .place % 2 ^ 56 * 256 + s .number % 256
     → (r ≡ status (outcome a)) × (old ≡ behind (outcome a) old)

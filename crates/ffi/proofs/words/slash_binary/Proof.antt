@@ -1,7 +1,5 @@
 -- `ffi::words::slash_binary` meets its contract. Assumes nothing.
-use Rattle.ffi.proofs.StatusLaws.{stored-best}
-use Rattle.slash.specs.Formats.{formatOf}
-use Rattle.arithmetic.proofs.BinaryLaws.{binary-best}
+use Rattle.ffi.proofs.StatusLaws.{stored-made}
 use borrow.Author.Needs.{needs}
 use Rattle.ffi.proofs.words.slash_binary.Statement.{statement}
 use Rattle.ffi.proofs.words.slash_binary.Tie as tie
@@ -13,9 +11,7 @@ store-requires : tie.Need-store-requires
 store-requires c κs = search needs
 
 returns : tie.Need-returns
-returns c =
-    let start = c .before .before .before .args in
-    stored-best _ (c .before .before .binary .result) (c .before .before .binary .ensures .0) _ (binary-best (formatOf (start .kind) (start .k)) (start .code) (start .left) (start .right)) _ _ _ (c .store .ensures)
+returns c = stored-made _ (c .before .before .binary .result) _ (c .before .before .binary .ensures) _ _ _ (c .store .ensures)
 
 pub slash-binary-spec : {M : Type 1} → statement M
 slash-binary-spec = tie.close (tie.spec binary-requires store-requires returns)

@@ -41,7 +41,8 @@ plain-requires-4 c κs = search needs
 
 returns-4 : tie.Need-returns-4
 returns-4 c =
-    refused _ 3 _ _ (c .plain4 .ensures) (binary-each-length _ _ _ _ _ (sym (c .before .before .before .before .before .before .is-known .ensures) ∙ not-false _ (c .before .before .before .before .before .if1 .left)) (sym (c .before .before .before .before .is-binary .ensures) ∙ not-false _ (c .before .before .before .if2 .left)) (inr (c .before .if4 .taken)))
+    let a = c .before .before .before .before .before .before .before .before .before .before .args in
+    refused _ 3 _ _ (c .plain4 .ensures) (binary-each-length (a .f) (a .code) (a .left .now) (a .right .now) (a .out .now) (sym (c .before .before .before .before .before .before .is-known .ensures) ∙ not-false _ (c .before .before .before .before .before .if1 .left)) (sym (c .before .before .before .before .is-binary .ensures) ∙ not-false _ (c .before .before .before .if2 .left)) (inr (c .before .if4 .taken)))
 
 pairs-requires : tie.Need-pairs-requires
 pairs-requires c κs = search needs
