@@ -5,7 +5,7 @@ use mathlib.Core.Logic.{_⊎_, inl, inr}
 use mathlib.Core.List.{List, [], _∷_, _++_, append-assoc, append-nil}
 use Prim.Native.Nat.{ℕ, zero, suc, _+_, _-_, _*_, _^_, _≤_, _<_, min}
 use native.Mathlib.Omega.{arith}
-use native.Mathlib.Nat.{mod-lt}
+use native.Mathlib.Nat.{mod-lt, pow-suc, pow-le-pow-right}
 use native.Mathlib.Numerals.{add-one}
 use native.Mathlib.Decide.{decLe, ℕ-discrete}
 use lib.Dec.{eqb, leb, ltb}
@@ -104,80 +104,111 @@ digit-bounds x t e = go (leb 48 x) refl (leb x 57) refl t refl e
     go true ae false be c ce f = let z : _≡_ {A = ℕ} 0 1 = cc in absurd (omega arith)
     go false ae b be c ce f = let z : _≡_ {A = ℕ} 0 1 = cc in absurd (omega arith)
 
+-- one digit more, whether the number is still a tick mark or not
+digit-more : (v x : ℕ) (xs : List ℕ) → 48 ≤ x → x ≤ 57
+    → (if leb v 4294967295 then digitsFrom v (x ∷ xs) else Wrong)
+    ≡ (if leb (v * 10 + (x - 48)) 4294967295 then digitsFrom (v * 10 + (x - 48)) xs else Wrong)
+digit-more v x xs low high = go (decLe (v * 10 + (x - 48)) 4294967295) (decLe v 4294967295)
+  where
+    go : Dec (v * 10 + (x - 48) ≤ 4294967295) → Dec (v ≤ 4294967295)
+        → (if leb v 4294967295 then digitsFrom v (x ∷ xs) else Wrong)
+        ≡ (if leb (v * 10 + (x - 48)) 4294967295 then digitsFrom (v * 10 + (x - 48)) xs else Wrong)
+    go (yes h) d =
+        let less : v ≤ 4294967295 = omega arith in
+        rw (le-leb _ _ less, le-leb _ _ h) (digits-step v x xs true (digit-good x low high _ ∙ le-leb _ _ h))
+    go (no h) (yes l) =
+        let more : 4294967295 < v * 10 + (x - 48) = omega arith in
+        rw (le-leb _ _ l, lt-leb _ _ more) (digits-step v x xs false (digit-good x low high _ ∙ lt-leb _ _ more))
+    go (no h) (no l) =
+        let more : 4294967295 < v * 10 + (x - 48) = omega arith in
+        let above : 4294967295 < v = omega arith in
+        rw (lt-leb _ _ above, lt-leb _ _ more) refl
+
 -- the digits read so far, and that any bytes behind them go on from their number
-pub record Leading (bs : List ℕ) (from v i : ℕ) : Type 0 where
+pub record Leading (bs : List ℕ) (from limit v i : ℕ) : Type 0 where
   pub count : ℕ
   pub place : i ≡ from + count
-  pub within : i ≤ length bs
-  pub small : v ≤ 4294967295
-  pub total : (xs : List ℕ) → digitsFrom 0 (take count (drop from bs) ++ xs) ≡ digitsFrom v xs
+  pub within : i ≤ limit
+  pub few : v < 10 ^ count
+  pub goes : (xs : List ℕ) → digitsFrom 0 (take count (drop from bs) ++ xs) ≡ (if leb v 4294967295 then digitsFrom v xs else Wrong)
 
-pub leading-start : (bs : List ℕ) (from : ℕ) → from ≤ length bs → Leading bs from 0 from
-leading-start bs from h = record { count = 0; place = omega arith; within = h; small = omega arith; total = λ xs. refl }
+pub leading-start : (bs : List ℕ) (from limit : ℕ) → from ≤ limit → Leading bs from limit 0 from
+leading-start bs from limit h = record { count = 0; place = omega arith; within = h; few = omega arith; goes = λ xs. refl }
 
-module _ {bs : List ℕ} {from v i : ℕ} (d : Leading bs from v i) where
+module _ {bs : List ℕ} {from limit v i : ℕ} (d : Leading bs from limit v i) where
   abbrev rest : List ℕ
   rest = drop from bs
 
-  leading-taken : digitsFrom 0 (take (d .count) rest) ≡ Tick v
-  unfolding digitsFrom
-  leading-taken = sym (ap (digitsFrom 0) (append-nil (take (d .count) rest))) ∙ d .total []
+  -- ten digits fit 64 bits
+  pub leading-small : limit ≤ from + 10 → i < limit → v < 10 ^ 9
+  leading-small h l =
+      let most : 10 ^ d .count ≤ 10 ^ 9 = pow-le-pow-right {n = 10} (omega arith) {i = d .count} {j = 9} (omega (arith, d .place)) in
+      omega (arith, d .few)
 
-  leading-led : (i < length bs → digitsFrom 0 rest ≡ Wrong) → Led bs from v i
-  leading-led w = record { count = d .count; place = d .place; within = d .within; small = d .small; taken = leading-taken; whole = w }
+  pub leading-end : limit ≤ i → Led bs from limit v i
+  leading-end l = record { count = d .count; place = d .place; within = d .within; goes = d .goes; stopped = λ h. absurd (omega arith) }
 
-  pub leading-end : length bs ≤ i → Led bs from v i
-  leading-end l = leading-led (λ h. absurd (omega arith))
+  abbrev x : ℕ
+  x = getD bs i 0
 
-  module _ (l : i < length bs) where
-    abbrev x : ℕ
-    x = getD bs i 0
+  pub leading-low : x < 48 → Led bs from limit v i
+  leading-low h = record { count = d .count; place = d .place; within = d .within; goes = d .goes; stopped = λ _. digit-low _ h }
 
-    short : d .count < length rest
-    short = omega (arith, l, d .place, length-drop from bs)
+  pub leading-high : 57 < x → Led bs from limit v i
+  leading-high h = record { count = d .count; place = d .place; within = d .within; goes = d .goes; stopped = λ _. digit-high _ h }
 
-    byte-here : getD rest (d .count) 0 ≡ x
-    byte-here = getD-drop from bs (d .count) 0 ∙ ap (λ (j : ℕ). getD bs j 0) (sym (d .place))
+  pub leading-next : i < limit → limit ≤ length bs → 48 ≤ x → x ≤ 57 → Leading bs from limit (v * 10 + (x - 48)) (i + 1)
+  leading-next l long low high =
+      let y : ℕ = getD rest (d .count) 0 in
+      let short : d .count < length rest = omega (arith, l, d .place, length-drop from bs) in
+      let here : y ≡ x = getD-drop from bs (d .count) 0 ∙ ap (λ (j : ℕ). getD bs j 0) (sym (d .place)) in
+      record {
+        count = suc (d .count);
+        place = omega (arith, d .place);
+        within = omega arith;
+        few = omega (arith, d .few, pow-suc 10 (d .count));
+        goes = λ xs.
+            ap (λ (t : List ℕ). digitsFrom 0 (t ++ xs)) (take-suc rest (d .count) 0 short)
+            ∙ ap (digitsFrom 0) (append-assoc (take (d .count) rest) (y ∷ []) xs)
+            ∙ d .goes (y ∷ xs)
+            ∙ ap (λ (z : ℕ). if leb v 4294967295 then digitsFrom v (z ∷ xs) else Wrong) here
+            ∙ digit-more v x xs low high;
+      }
 
-    leading-stop : (isDigit x && leb (v * 10 + (x - 48)) 4294967295) ≡ false → Led bs from v i
-    leading-stop e =
-        let more : List ℕ = drop (suc (d .count)) rest in
-        leading-led (λ h.
-        ap (digitsFrom 0) (split-at rest (d .count) 0 short) ∙ d .total (getD rest (d .count) 0 ∷ more)
-        ∙ ap (λ (y : ℕ). digitsFrom v (y ∷ more)) byte-here ∙ digits-step v x more false e)
+-- the digits alone, where their number is a tick mark
+pub led-tick : {bs : List ℕ} {from limit v k : ℕ} (l : Led bs from limit v k) → v ≤ 4294967295 → digitsFrom 0 (take (l .count) (drop from bs)) ≡ Tick v
+unfolding digitsFrom
+led-tick {bs} {from} {limit} {v} l h =
+    ap (digitsFrom 0) (sym (append-nil (take (l .count) (drop from bs)))) ∙ l .goes [] ∙ rw (le-leb _ _ h) refl
 
-    pub leading-low : x < 48 → Led bs from v i
-    leading-low h = leading-stop (digit-low _ h _)
-
-    pub leading-high : 57 < x → Led bs from v i
-    leading-high h = leading-stop (digit-high _ h _)
-
-    module _ (low : 48 ≤ x) (high : x ≤ 57) where
-      pub leading-above : 4294967295 < v * 10 + (x - 48) → Led bs from v i
-      leading-above h = leading-stop (digit-good _ low high _ ∙ lt-leb _ _ h)
-
-      pub leading-next : v * 10 + (x - 48) ≤ 4294967295 → Leading bs from (v * 10 + (x - 48)) (i + 1)
-      leading-next h =
-          let y : ℕ = getD rest (d .count) 0 in
-          record {
-            count = suc (d .count);
-            place = omega (arith, d .place);
-            within = omega arith;
-            small = h;
-            total = λ xs.
-                ap (λ (t : List ℕ). digitsFrom 0 (t ++ xs)) (take-suc rest (d .count) 0 short)
-                ∙ ap (digitsFrom 0) (append-assoc (take (d .count) rest) (y ∷ []) xs)
-                ∙ d .total (y ∷ xs)
-                ∙ ap (λ (z : ℕ). digitsFrom v (z ∷ xs)) byte-here
-                ∙ digits-step v x xs true (digit-good _ low high _ ∙ le-leb _ _ h);
-          }
-
-module _ {ds : List ℕ} {v k : ℕ} (l : Led ds 0 v k) where
+module _ {ds : List ℕ} {v k : ℕ} (l : Led ds 0 (length ds) v k) where
   pub digits-wrong : k < length ds → Wrong ≡ digitsFrom 0 ds
-  digits-wrong h = sym (l .whole h)
+  digits-wrong h =
+      let c : ℕ = l .count in
+      let more : List ℕ = drop (suc c) ds in
+      let place : k ≡ c = omega (arith, l .place) in
+      let other : (isDigit (getD ds c 0) && leb (v * 10 + (getD ds c 0 - 48)) 4294967295) ≡ false =
+      ap (λ (j : ℕ). isDigit (getD ds j 0) && leb (v * 10 + (getD ds c 0 - 48)) 4294967295) (sym place) ∙ l .stopped h _
+      in
+      sym (
+      ap (digitsFrom 0) (split-at ds c 0 (omega arith)) ∙ l .goes (getD ds c 0 ∷ more)
+      ∙ ap (λ (m : Mark). if leb v 4294967295 then m else Wrong) (digits-step v (getD ds c 0) more false other)
+      ∙ same (leb v 4294967295)
+      )
+    where
+      same : (t : Bool) → (if t then Wrong else Wrong) ≡ Wrong
+      same true = refl
+      same false = refl
 
-  pub digits-tick : length ds ≤ k → Tick v ≡ digitsFrom 0 ds
-  digits-tick h = sym (l .taken) ∙ ap (digitsFrom 0) (take-all (l .count) ds (omega (arith, l .place)))
+  module _ (h : length ds ≤ k) where
+    all : take (l .count) ds ≡ ds
+    all = take-all (l .count) ds (omega (arith, l .place))
+
+    pub digits-above : 4294967295 < v → Wrong ≡ digitsFrom 0 ds
+    digits-above o = sym (ap (digitsFrom 0) (sym (append-nil ds) ∙ ap (λ (t : List ℕ). t ++ []) (sym all)) ∙ l .goes [] ∙ rw (lt-leb _ _ o) refl)
+
+    pub digits-tick : v ≤ 4294967295 → Tick v ≡ digitsFrom 0 ds
+    digits-tick s = sym (led-tick l s) ∙ ap (digitsFrom 0) all
 
 -- ---- a tick mark
 

@@ -13,7 +13,7 @@ use Rattle.recording.specs.Text.{decimalFrom, decimal}
 use Rattle.recording.specs.Lines.{isDigit, digitsFrom, readMark}
 use Rattle.recording.specs.declared.line.Mark.{Mark}
 use Rattle.recording.specs.declared.line.Mark.the-variants.{Tick, Wrong}
-use Rattle.recording.proofs.TextLaws.{from-small, from-more, decimal-small, decimal-more}
+use Rattle.recording.proofs.TextLaws.{from-small, from-more, decimal-small, decimal-more, decimal-length}
 use Rattle.recording.proofs.LineLaws.{digits-step, digit-good, no-tick, digit-bounds, mark-empty, mark-leading, mark-digits}
 
 -- ---- every such decimal is taken
@@ -149,3 +149,13 @@ decimal-of-mark (x ∷ xs) n e = go (isDigit x && leb (0 * 10 + (x - 48)) 429496
         let w = digits-decimal v xs n some small (sym (digits-step 0 x xs true f) ∙ digits (inl z)) in
         let first : (x ∷ []) ≡ decimal v = decimal-small v x (omega (arith, b .1)) (omega (arith, b .0)) in
         (ap (λ (t : List ℕ). t ++ xs) first ∙ w .0, w .1)
+
+-- So it has at most ten digits.
+pub mark-long : (f : List ℕ) → 10 < length f → Wrong ≡ readMark f
+mark-long f h = go (readMark f) refl
+  where
+    go : (m : Mark) → readMark f ≡ m → Wrong ≡ readMark f
+    go Wrong e = sym e
+    go (Tick n) e =
+        let d = decimal-of-mark f n e in
+        absurd (omega (arith, h, ap length (d .0), decimal-length 9 n (omega (arith, d .1))))

@@ -22,18 +22,18 @@ use Rattle.recording.specs.declared.line.Pass.{Pass}
 use Rattle.recording.specs.declared.line.Pass.the-variants as Pass
 use Rattle.recording.specs.declared.line.Start.{Start}
 use Rattle.recording.specs.declared.line.Start.the-variants as Start
-use Rattle.recording.proofs.LineLaws.{before-step, before-le, digits-step, no-tick, digit-bounds, mark-digits, fields-step, fields-whole, line-read}
+use Rattle.recording.proofs.LineLaws.{before-step, before-le, digits-step, no-tick, digit-bounds, mark-digits, led-tick, fields-step, fields-whole, line-read}
 
 -- ---- a tick mark and the byte that ends it
 
-pub opens : {bs : List ℕ} {from v k : ℕ} (e : ℕ) → Led bs from v k → (k ≡ length bs → ⊥) → getD bs k 0 ≡ e → (k ≡ from → ⊥)
-    → (getD bs from 0 ≡ 48 → ⊥) ⊎ (k ≤ from + 1) → Opens bs from e v (k + 1)
-opens {bs} {from} {v} {k} e l within ended some lead =
+pub opens : {bs : List ℕ} {from v k : ℕ} (e : ℕ) → from + 11 ≤ length bs → Led bs from (from + 10) v k → getD bs k 0 ≡ e → (k ≡ from → ⊥)
+    → v ≤ 4294967295 → (getD bs from 0 ≡ 48 → ⊥) ⊎ (k ≤ from + 1) → Opens bs from e v (k + 1)
+opens {bs} {from} {v} {k} e long l ended some small lead =
     let rest : List ℕ = drop from bs in
     let c : ℕ = l .count in
     let more : c < length rest = omega (arith, l .place, l .within, length-drop from bs) in
     let positive : 1 ≤ c = omega (arith, l .place) in
-    let long : length (take c rest) ≡ c = length-take-le c rest (omega arith) in
+    let exact : length (take c rest) ≡ c = length-take-le c rest (omega arith) in
     let first : getD (take c rest) 0 0 ≡ getD bs from 0 =
     getD-take c rest 0 0 (omega arith) ∙ getD-drop from bs 0 0 ∙ ap (λ (j : ℕ). getD bs j 0) (add-zero from)
     in
@@ -45,9 +45,10 @@ opens {bs} {from} {v} {k} e l within ended some lead =
       field = take c rest;
       rest = drop (suc c) rest;
       bytes = split-at rest c 0 more ∙ ap (λ (x : ℕ). take c rest ++ (x ∷ drop (suc c) rest)) last;
-      digits = l .taken;
-      mark = sym (mark-digits (take c rest) (omega arith) leads) ∙ l .taken;
-      place = omega (arith, l .place, long);
+      digits = led-tick l small;
+      mark = sym (mark-digits (take c rest) (omega arith) leads) ∙ led-tick l small;
+      place = omega (arith, l .place, exact);
+      short = omega (arith, l .within);
     }
 
 module _ {bs : List ℕ} {from e : ℕ} where
@@ -55,9 +56,6 @@ module _ {bs : List ℕ} {from e : ℕ} where
   opened o x d = subst (Opened bs from e) d o
 
   module _ {t u : ℕ} (o : Opens bs from e t u) where
-    pub opens-within : u ≤ length bs
-    opens-within = omega (arith, o .place, ap length (o .bytes), length-append (o .field) (e ∷ o .rest), length-drop from bs)
-
     rest-is : drop u bs ≡ o .rest
     rest-is =
         let front : List ℕ = o .field ++ (e ∷ []) in
@@ -170,8 +168,9 @@ module _ {bs : List ℕ} {o p n i j k : ℕ} (x : Opens bs 0 9 o i) (y : Opens b
   unfolding fromFields fromMarks
   marks used = rw (x .mark, y .mark, z .mark) refl
 
-  pub breath-read : (b : Breath) → b ≡ breathOf o p n → k ≤ 33 → Read (record { breath = b; used = k }) ≡ readLine bs
-  breath-read b be short =
+  pub breath-read : (b : Breath) → b ≡ breathOf o p n → Read (record { breath = b; used = k }) ≡ readLine bs
+  breath-read b be =
+      let short : k ≤ 33 = omega (arith, x .short, y .short, z .short) in
       let few : lengthBefore 10 (take 33 bs) ≡ length line = before-take 10 33 bs (omega (arith, feed, line-length)) ∙ feed in
       let long : length bs ≡ length line + suc (length (z .rest)) = ap length as-line ∙ length-append line (10 ∷ z .rest) in
       let within : lengthBefore 10 (take 33 bs) < length (take 33 bs) = omega (arith, few, long, line-length, length-take 33 bs) in

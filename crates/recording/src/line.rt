@@ -1,6 +1,6 @@
 // A line of a recording: three tick marks parted by tabs.
 ghost use mathlib.Core.Path.{_≡_};
-ghost use Prim.Native.Nat.{_≤_, min};
+ghost use Prim.Native.Nat.{_+_, _≤_, min};
 ghost use lib.ListN.{length};
 ghost use Rattle.recording.specs.Lines.{digitsFrom, readMark, lengthBefore, fields, fromMarks, fromFields, readLine};
 ghost use Rattle.recording.specs.Starts.{Led, Opened, Sought};
@@ -12,6 +12,9 @@ pub(crate) const MOST_BYTES: usize = 33;
 
 // The largest tick mark, and the longest duration.
 pub(crate) const MOST_TICKS: u64 = 4294967295;
+
+// The most digits of a tick mark.
+const MOST_DIGITS: usize = 10;
 
 // What a field says.
 pub(crate) enum Mark {
@@ -31,7 +34,7 @@ pub(crate) enum Line {
     Refused(u32),
 }
 
-// The number of some digits, as many as make a tick mark, and the place behind them.
+// The number of some digits, and the place behind them.
 pub(crate) struct Digits {
     pub(crate) value: u64,
     pub(crate) end: usize,
@@ -70,14 +73,14 @@ fn length_before(bytes: &[u8], b: u8) -> usize
     i
 }
 
-// The digits from a place on.
-fn leading_digits(bytes: &[u8], from: usize) -> Digits
-    requires { ⌜ from ≤ length (now bytes) ⌝ }
-    ensures { λ r. ⌜ Led (now (bytes .entry)) from (r .value) (r .end) ⌝ }
+// The digits from a place on, up to a limit. Ten digits fit 64 bits, and no tick mark has more.
+fn leading_digits(bytes: &[u8], from: usize, limit: usize) -> Digits
+    requires { ⌜ (from ≤ limit) × (limit ≤ from + 10) × (limit ≤ length (now bytes)) ⌝ }
+    ensures { λ r. ⌜ Led (now (bytes .entry)) from limit (r .value) (r .end) ⌝ }
 {
     let mut value: u64 = 0;
     let mut i = from;
-    while i < bytes.len() {
+    while i < limit {
         let b = bytes[i];
         if b < b'0' || b'9' < b {
             return Digits {
@@ -85,14 +88,7 @@ fn leading_digits(bytes: &[u8], from: usize) -> Digits
                 end: i,
             };
         }
-        let next = value * 10 + (b - b'0') as u64;
-        if MOST_TICKS < next {
-            return Digits {
-                value: value,
-                end: i,
-            };
-        }
-        value = next;
+        value = value * 10 + (b - b'0') as u64;
         i += 1;
     }
     Digits {
@@ -103,10 +99,14 @@ fn leading_digits(bytes: &[u8], from: usize) -> Digits
 
 // The number of some digits.
 fn read_digits(digits: &[u8]) -> Mark
+    requires { ⌜ length (now digits) ≤ 10 ⌝ }
     ensures { λ r. ⌜ r ≡ digitsFrom 0 (now (digits .entry)) ⌝ }
 {
-    let d = leading_digits(digits, 0);
+    let d = leading_digits(digits, 0, digits.len());
     if d.end < digits.len() {
+        return Mark::Wrong;
+    }
+    if MOST_TICKS < d.value {
         return Mark::Wrong;
     }
     Mark::Tick(d.value as u32)
@@ -122,6 +122,9 @@ fn read_mark(field: &[u8]) -> Mark
         if 1 < field.len() {
             return Mark::Wrong;
         }
+    }
+    if MOST_DIGITS < field.len() {
+        return Mark::Wrong;
     }
     read_digits(field)
 }
@@ -189,20 +192,20 @@ fn read_any(bytes: &[u8]) -> Line
     read_fields(k + 1, &bytes[..k])
 }
 
-// The tick mark from a place on that the byte `end` ends.
+// The tick mark from a place on that the byte `end` ends. It has room: ten digits and that byte.
 fn read_start(bytes: &[u8], from: usize, end: u8) -> Start
-    requires { ⌜ from ≤ length (now bytes) ⌝ }
+    requires { ⌜ from + 11 ≤ length (now bytes) ⌝ }
     ensures { λ r. ⌜ Opened (now (bytes .entry)) from end r ⌝ }
 {
-    let d = leading_digits(bytes, from);
+    let d = leading_digits(bytes, from, from + MOST_DIGITS);
     let k = d.end;
-    if k == bytes.len() {
-        return Start::Other;
-    }
     if bytes[k] != end {
         return Start::Other;
     }
     if k == from {
+        return Start::Other;
+    }
+    if MOST_TICKS < d.value {
         return Start::Other;
     }
     if bytes[from] == b'0' {
@@ -216,10 +219,14 @@ fn read_start(bytes: &[u8], from: usize, end: u8) -> Start
     })
 }
 
-// The breath at the start of some bytes, in one pass.
+// The breath at the start of some bytes, in one pass. Where they hold the longest line, three marks of
+// ten digits and the bytes that end them, no mark runs out of them.
 fn read_breath(bytes: &[u8]) -> Pass
     ensures { λ r. ⌜ Sought (now (bytes .entry)) r ⌝ }
 {
+    if bytes.len() < MOST_BYTES {
+        return Pass::Other;
+    }
     let Start::Mark(onset) = read_start(bytes, 0, b'\t') else {
         return Pass::Other;
     };
@@ -229,9 +236,6 @@ fn read_breath(bytes: &[u8]) -> Pass
     let Start::Mark(next) = read_start(bytes, peak.behind, b'\n') else {
         return Pass::Other;
     };
-    if MOST_BYTES < next.behind {
-        return Pass::Other;
-    }
     let b = Breath::between(onset.ticks, peak.ticks, next.ticks);
     Pass::Breath(Entry {
         breath: b,

@@ -1,39 +1,40 @@
 -- `recording::line::leading_digits` meets its contract. Assumes nothing.
 use borrow.Author.Tests.{ltb-true, ltb-false}
-use Rattle.recording.proofs.LineLaws.{Leading, leading-start, leading-end, leading-low, leading-high, leading-above, leading-next}
+use Rattle.recording.proofs.LineLaws.{Leading, leading-start, leading-small, leading-end, leading-low, leading-high, leading-next}
 use native.Mathlib.Omega.{arith}
 use Prim.Native.Nat.{_-_}
-use lib.ListN.{length}
 use mathlib.Core.Logic.{⊎-elim}
 use Rattle.recording.proofs.line.leading_digits.Statement.{statement}
 use Rattle.recording.proofs.line.leading_digits.Tie as tie
 
 abbrev Inv-loop : tie.InvT-loop
-Inv-loop bytes from value₀ i₀ value i = Leading bytes from value i
+Inv-loop bytes from limit value₀ i₀ value i = Leading bytes from limit value i
 
 abbrev μ-loop : tie.MeasureT-loop
-μ-loop bytes from value₀ i₀ value i = length bytes - i
+μ-loop bytes from limit value₀ i₀ value i = limit - i
 
 loop-holds : tie.Need-loop-holds Inv-loop μ-loop
-loop-holds c = leading-start _ _ (c .pre)
+loop-holds c = leading-start _ _ _ (c .pre .0)
 
 shared-slice-read-b : tie.Need-shared-slice-read-b Inv-loop μ-loop
 shared-slice-read-b c = omega arith
 
 returns : tie.Need-returns Inv-loop μ-loop
-returns c = ⊎-elim (λ w. leading-low (c .before .before .before .loop .inv) (omega arith) (w .taken)) (λ w. leading-high (c .before .before .before .loop .inv) (omega arith) (ltb-true _ _ (w .1 .taken))) (c .if1 .came)
+returns c = ⊎-elim (λ w. leading-low (c .before .before .before .loop .inv) (w .taken)) (λ w. leading-high (c .before .before .before .loop .inv) (ltb-true _ _ (w .1 .taken))) (c .if1 .came)
 
-mul-next : tie.Need-mul-next Inv-loop μ-loop
-mul-next c = omega (arith, c .before .before .before .before .loop .inv .small)
+mul-value : tie.Need-mul-value Inv-loop μ-loop
+mul-value c = omega (arith, leading-small (c .before .before .before .before .loop .inv) (c .before .before .before .before .before .pre .1) (c .before .before .before .loop-test .taken))
 
-cast-next : tie.Need-cast-next Inv-loop μ-loop
-cast-next c = omega (arith, c .before .before .shared-slice-known .given (c .before .before .before .before .loop .i))
+cast-value : tie.Need-cast-value Inv-loop μ-loop
+cast-value c = omega (arith, c .before .before .shared-slice-known .given (c .before .before .before .before .loop .i))
 
-add-next : tie.Need-add-next Inv-loop μ-loop
-add-next c = omega (arith, c .before .before .before .before .loop .inv .small, c .before .before .shared-slice-known .given (c .before .before .before .before .loop .i))
-
-returns-2 : tie.Need-returns-2 Inv-loop μ-loop
-returns-2 c = leading-above (c .before .before .before .before .before .loop .inv) (omega arith) (c .before .before .if1 .left) (ltb-false _ _ (c .before .if2 .left)) (omega (arith, c .if3 .taken))
+add-value : tie.Need-add-value Inv-loop μ-loop
+add-value c =
+    omega (
+      arith,
+      leading-small (c .before .before .before .before .loop .inv) (c .before .before .before .before .before .pre .1) (c .before .before .before .loop-test .taken),
+      c .before .before .shared-slice-known .given (c .before .before .before .before .loop .i),
+    )
 
 add-i : tie.Need-add-i Inv-loop μ-loop
 add-i c = omega arith
@@ -42,10 +43,10 @@ loop-less : tie.Need-loop-less Inv-loop μ-loop
 loop-less c = omega arith
 
 loop-again : tie.Need-loop-again Inv-loop μ-loop
-loop-again c = leading-next (c .before .before .before .before .before .loop .inv) (omega arith) (c .before .before .if1 .left) (ltb-false _ _ (c .before .if2 .left)) (c .if3 .left)
+loop-again c = leading-next (c .before .before .before .before .loop .inv) (c .before .before .before .loop-test .taken) (c .before .before .before .before .before .pre .2) (c .before .if1 .left) (ltb-false _ _ (c .if2 .left))
 
-returns-3 : tie.Need-returns-3 Inv-loop μ-loop
-returns-3 c = leading-end (c .before .loop .inv) (omega arith)
+returns-2 : tie.Need-returns-2 Inv-loop μ-loop
+returns-2 c = leading-end (c .before .loop .inv) (c .loop-test .left)
 
 pub leading-digits-spec : {M : Type 1} → statement M
 leading-digits-spec =
@@ -56,11 +57,10 @@ leading-digits-spec =
     loop-holds
     shared-slice-read-b
     returns
-    mul-next
-    cast-next
-    add-next
-    returns-2
+    mul-value
+    cast-value
+    add-value
     add-i
     loop-less
     loop-again
-    returns-3)
+    returns-2)

@@ -1,5 +1,6 @@
 -- `recording::line::read_mark` meets its contract. Assumes nothing.
 use Rattle.recording.proofs.LineLaws.{mark-empty, mark-leading, mark-digits}
+use Rattle.recording.proofs.Marks.{mark-long}
 use native.Mathlib.Omega.{arith}
 use mathlib.Core.Logic.{⊎-elim, inl, inr}
 use mathlib.Core.Path.{_∙_}
@@ -11,19 +12,29 @@ returns : tie.Need-returns
 returns c = mark-empty _ (c .if1 .taken)
 
 shared-slice-read-if2 : tie.Need-shared-slice-read-if2
-shared-slice-read-if2 c = omega arith
+shared-slice-read-if2 c = search needs
 
 returns-2 : tie.Need-returns-2
 returns-2 c = mark-leading _ (c .before .if2 .taken) (c .if3 .taken)
 
+returns-3 : tie.Need-returns-3
+returns-3 c = mark-long _ (c .if4 .taken)
+
 read-digits-requires : tie.Need-read-digits-requires
 read-digits-requires c κs = search needs
 
-returns-3 : tie.Need-returns-3
-returns-3 c =
+returns-4 : tie.Need-returns-4
+returns-4 c =
     c .read-digits .ensures
-    ∙ mark-digits _ (omega arith) (⊎-elim (λ w. inr (w .1 .left)) (λ w. inl (w .left)) (c .before .if2 .came))
+    ∙ mark-digits _ (omega arith) (⊎-elim (λ w. inr (w .1 .left)) (λ w. inl (w .left)) (c .before .before .if2 .came))
 
 pub read-mark-spec : {M : Type 1} → statement M
 read-mark-spec =
-    tie.close (tie.spec returns shared-slice-read-if2 returns-2 read-digits-requires returns-3)
+    tie.close
+    (tie.spec
+    returns
+    shared-slice-read-if2
+    returns-2
+    returns-3
+    read-digits-requires
+    returns-4)

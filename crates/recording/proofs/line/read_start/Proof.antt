@@ -5,14 +5,17 @@ use borrow.Author.Needs.{needs}
 use Rattle.recording.proofs.line.read_start.Statement.{statement}
 use Rattle.recording.proofs.line.read_start.Tie as tie
 
+add-leading-digits : tie.Need-add-leading-digits
+add-leading-digits c = search needs
+
 leading-digits-requires : tie.Need-leading-digits-requires
 leading-digits-requires c κs = search needs
 
+shared-slice-read-if1 : tie.Need-shared-slice-read-if1
+shared-slice-read-if1 c = search needs
+
 returns : tie.Need-returns
 returns c = search needs
-
-shared-slice-read-if2 : tie.Need-shared-slice-read-if2
-shared-slice-read-if2 c = search needs
 
 returns-2 : tie.Need-returns-2
 returns-2 c = search needs
@@ -36,15 +39,18 @@ add-t6 : tie.Need-add-t6
 add-t6 c = search needs
 
 returns-5 : tie.Need-returns-5
-returns-5 c = opens _ (c .before .before .before .before .before .before .before .leading-digits .ensures) (c .before .before .before .before .before .before .if1 .left) (c .before .before .before .before .if2 .left) (c .before .before .before .if3 .left) (⊎-elim (λ w. inr (w .1 .left)) (λ w. inl (w .left)) (c .before .if4 .came))
+returns-5 c =
+    opens _ (c .before .before .before .before .before .before .before .before .before .before .pre) (c .before .before .before .before .before .before .before .before .leading-digits .ensures) (c .before .before .before .before .before .before .if1 .left) (c .before .before .before .before .before .if2 .left) (c .before .before .before .if3 .left)
+    (⊎-elim (λ w. inr (w .1 .left)) (λ w. inl (w .left)) (c .before .if4 .came))
 
 pub read-start-spec : {M : Type 1} → statement M
 read-start-spec =
     tie.close
     (tie.spec
+    add-leading-digits
     leading-digits-requires
+    shared-slice-read-if1
     returns
-    shared-slice-read-if2
     returns-2
     returns-3
     shared-slice-read-if4
