@@ -1,12 +1,12 @@
 -- Bytes read behind those that a buffer holds, and moved to its front. Assumes nothing.
 use mathlib.Core.Path.{_≡_, refl, sym, ap, _∙_}
-use mathlib.Core.List.{List, [], _++_}
+use mathlib.Core.List.{List, _++_}
 use Prim.Native.Nat.{ℕ, zero, suc, _+_, _-_, _≤_, _<_}
 use native.Mathlib.Omega.{arith}
 use native.Mathlib.Nat.{zero-add}
 use native.Mathlib.Numerals.{add-one}
-use lib.ListN.{length, getD, set, take, drop, length-append, length-take, length-drop}
-use lib.Seq.{length-take-le, getD-append-add, getD-drop, take-at, paste, paste-zero, paste-suc, length-paste}
+use lib.ListN.{length, getD, set, take, drop, length-take, length-drop}
+use lib.Seq.{length-take-le, getD-append-add, getD-drop, paste, paste-zero, paste-suc, length-paste}
 use Rattle.io.specs.Counts.{Counts}
 use Rattle.recording.specs.Listing.{atStart}
 

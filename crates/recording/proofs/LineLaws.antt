@@ -434,12 +434,12 @@ module _ (bs : List ℕ) where
 
 -- ---- the paper's words for stop 9
 
--- what stands before b in the first m places
+-- what stands before b in the first m places: where b is among them, and where it isn't
 module _ (b : ℕ) where
-  near : (m : ℕ) (bs : List ℕ) → lengthBefore b bs < m → lengthBefore b (take m bs) ≡ lengthBefore b bs
-  near zero bs l = absurd (omega arith)
-  near (suc m) [] l = refl
-  near (suc m) (x ∷ xs) l = go (eqb x b) refl (near m xs)
+  pub before-take : (m : ℕ) (bs : List ℕ) → lengthBefore b bs < m → lengthBefore b (take m bs) ≡ lengthBefore b bs
+  before-take zero bs l = absurd (omega arith)
+  before-take (suc m) [] l = refl
+  before-take (suc m) (x ∷ xs) l = go (eqb x b) refl (before-take m xs)
     where
       go : (t : Bool) → eqb x b ≡ t → (lengthBefore b xs < m → lengthBefore b (take m xs) ≡ lengthBefore b xs)
           → lengthBefore b (x ∷ take m xs) ≡ lengthBefore b (x ∷ xs)
@@ -472,11 +472,11 @@ module _ (bs : List ℕ) where
           let i : length (take 33 bs) ≤ lengthBefore 10 (take 33 bs) = omega (arith, far 10 33 bs l, length-take 33 bs) in
           rw (le-leb _ _ i, lt-ltb 32 K l, or-true) refl
       go (no l) (yes e) =
-          let n : lengthBefore 10 (take 33 bs) ≡ K = near 10 33 bs (omega arith) in
+          let n : lengthBefore 10 (take 33 bs) ≡ K = before-take 10 33 bs (omega arith) in
           let i : length (take 33 bs) ≤ K = omega (arith, length-take 33 bs) in
           rw (n, le-leb _ _ i, eq-eqb _ _ e) refl
       go (no l) (no e) =
-          let n : lengthBefore 10 (take 33 bs) ≡ K = near 10 33 bs (omega arith) in
+          let n : lengthBefore 10 (take 33 bs) ≡ K = before-take 10 33 bs (omega arith) in
           let i : K < length (take 33 bs) = omega (arith, length-take 33 bs, before-le 10 bs) in
           let j : K ≤ 32 = omega arith in
           rw (n, lt-leb _ _ i, ne-eqb _ _ e, le-ltb _ _ j) refl

@@ -1,7 +1,7 @@
 -- A listing in pieces: its steps, that the pieces make the listing, and the loop that stores one. Assumes nothing.
 use mathlib.Core.Path.{_≡_, refl, sym, ap, _∙_, subst}
 use mathlib.Core.Bool.{Bool, true, false, _&&_, _||_, and-eq-true-iff}
-use mathlib.Core.List.{List, [], _∷_, _++_, append-assoc, append-nil}
+use mathlib.Core.List.{List, [], _++_, append-assoc, append-nil}
 use Prim.Native.Nat.{ℕ, zero, suc, _+_, _-_, _*_, _≤_, _<_}
 use native.Mathlib.Omega.{arith}
 use native.Mathlib.Nat.{add-zero, zero-add, add-assoc, sub-zero}
@@ -11,9 +11,9 @@ use lib.Seq.{take-take, take-append-seam, drop-append-le, drop-drop}
 use borrow.Author.Tests.{leb-true, le-leb}
 use Rattle.breaths.specs.declared.breath.Breath.{Breath}
 use Rattle.recording.specs.Lines.{lengthBefore, readLine}
-use Rattle.recording.specs.Listing.{breathLine, endLine, begun, withLine, fromLine, nextOf, listingFrom, listingOn, listingOf, atStart}
+use Rattle.recording.specs.Listing.{breathLine, endLine, begun, withLine, nextOf, listingFrom, listingOn, listingOf, atStart}
 use Rattle.recording.specs.Pieces.{isNight, Listed, stay, onward, isSure, piecesFrom, pieceOf, goesOn, restOf, answerOf}
-use Rattle.recording.specs.Stores.{put, Room, Stored, Final}
+use Rattle.recording.specs.Stores.{Room, Stored, Final}
 use Rattle.recording.specs.declared.line.Entry.{Entry}
 use Rattle.recording.specs.declared.night.Night.{Night}
 use Rattle.recording.specs.declared.night.End.{End}
@@ -23,7 +23,7 @@ use Rattle.recording.specs.declared.night.Next.the-variants.{More, Ended
 use Rattle.recording.specs.declared.piece.Piece.{Piece}
 use Rattle.recording.proofs.TextLaws.{put-front, store-none, stored-length, chain}
 use Rattle.recording.proofs.LineLaws.{tail-is, before-le, Whole}
-use Rattle.recording.proofs.NightLaws.{Real, night-real, real-night, begun-real, real-next, Follows, next-follows, next-none, next-is}
+use Rattle.recording.proofs.NightLaws.{Real, night-real, real-night, begun-real, real-next, Follows, next-follows, next-is}
 use Rattle.recording.proofs.ListingLaws.{breath-length, end-length}
 
 -- ---- one step of a listing, and of a piece

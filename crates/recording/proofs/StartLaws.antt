@@ -22,7 +22,7 @@ use Rattle.recording.specs.declared.line.Pass.{Pass}
 use Rattle.recording.specs.declared.line.Pass.the-variants as Pass
 use Rattle.recording.specs.declared.line.Start.{Start}
 use Rattle.recording.specs.declared.line.Start.the-variants as Start
-use Rattle.recording.proofs.LineLaws.{before-step, before-le, digits-step, no-tick, digit-bounds, mark-digits, led-tick, fields-step, fields-whole, line-read}
+use Rattle.recording.proofs.LineLaws.{before-step, before-le, before-take, digits-step, no-tick, digit-bounds, mark-digits, led-tick, fields-step, fields-whole, line-read}
 
 -- ---- a tick mark and the byte that ends it
 
@@ -94,19 +94,6 @@ fields-digits v (x ∷ xs) t e r = go (isDigit x && leb (v * 10 + (x - 48)) 4294
 fields-last : (f : List ℕ) (t : ℕ) → digitsFrom 0 f ≡ Tick t → fields f ≡ f ∷ []
 fields-last f t e =
     fields-whole f (omega (arith, before-digits 9 (omega arith) 0 f t e [], ap (lengthBefore 9) (append-nil f), before-le 9 []))
-
--- a byte that stands among the first n stands there as well where only those are looked at
-before-take : (b n : ℕ) (bs : List ℕ) → lengthBefore b bs < n → lengthBefore b (take n bs) ≡ lengthBefore b bs
-before-take b zero bs h = absurd (omega arith)
-before-take b (suc n) [] h = refl
-before-take b (suc n) (x ∷ xs) h = go (eqb x b) refl (before-take b n xs)
-  where
-    go : (t : Bool) → eqb x b ≡ t → (lengthBefore b xs < n → lengthBefore b (take n xs) ≡ lengthBefore b xs)
-        → lengthBefore b (x ∷ take n xs) ≡ lengthBefore b (x ∷ xs)
-    go true e ih = before-step b x (take n xs) true e ∙ sym (before-step b x xs true e)
-    go false e ih =
-        let s = before-step b x xs false e in
-        before-step b x (take n xs) false e ∙ ap suc (ih (omega (arith, h, s))) ∙ sym s
 
 -- ---- three marks
 

@@ -3,14 +3,14 @@ use mathlib.Core.Path.{_≡_, refl, sym, ap, _∙_, subst}
 use mathlib.Core.List.{List, [], _∷_, _++_, append-assoc}
 use Prim.Native.Nat.{ℕ, zero, suc, _+_, _-_, _/_, _%_, _^_, _≤_, _<_}
 use native.Mathlib.Omega.{arith}
-use native.Mathlib.Nat.{add-zero, add-suc, suc-add, le-of-suc-le-suc, not-suc-le-zero, pow-suc}
+use native.Mathlib.Nat.{add-zero, zero-add, add-suc, suc-add, le-of-suc-le-suc, pow-suc}
 use native.Mathlib.Numerals.{add-one}
-use mathlib.Core.Bool.{Bool, true, false}
-use lib.Dec.{ltb}
+use mathlib.Core.Bool.{Bool, true, false, _&&_, and-eq-true-iff}
+use lib.Dec.{eqb, ltb}
 use native.Mathlib.Decide.{decLt}
 use lib.ListN.{set, length, getD, drop, length-set, length-append}
-use lib.Seq.{drop-cons, drop-length}
-use borrow.Author.Tests.{lt-ltb, le-ltb}
+use lib.Seq.{sets-eq, length-sets, drop-cons, drop-length}
+use borrow.Author.Tests.{lt-ltb, le-ltb, eqb-true}
 use Rattle.recording.specs.Text.{decimalFrom, decimal, hexDigit, hexadecimal}
 use Rattle.recording.specs.Stores.{put, Room, Stored, twoDigits}
 
@@ -18,8 +18,7 @@ use Rattle.recording.specs.Stores.{put, Room, Stored, twoDigits}
 
 length-put : (o : List ℕ) (k : ℕ) (t : List ℕ) → length (put o k t) ≡ length o
 unfolding put
-length-put o k [] = refl
-length-put o k (b ∷ t) = length-put (set o k b) (suc k) t ∙ length-set o k b
+length-put o k t = length-sets o k t
 
 pub put-append : (o : List ℕ) (k : ℕ) (t u : List ℕ) → put o k (t ++ u) ≡ put (put o k t) (k + length t) u
 unfolding put
@@ -28,17 +27,10 @@ put-append o k (b ∷ t) u =
     put-append (set o k b) (suc k) t u
     ∙ ap (λ (j : ℕ). put (put (set o k b) (suc k) t) j u) (suc-add k (length t) ∙ sym (add-suc k (length t)))
 
-shift : (x : ℕ) (o : List ℕ) (k : ℕ) (t : List ℕ) → put (x ∷ o) (suc k) t ≡ x ∷ put o k t
-unfolding put
-shift x o k [] = refl
-shift x o k (b ∷ t) = shift x (set o k b) (suc k) t
-
 -- from the start of a list that is long enough: the text, and then the list's rest
 pub put-front : (o t : List ℕ) → length t ≤ length o → put o 0 t ≡ t ++ drop (length t) o
 unfolding put
-put-front o [] h = refl
-put-front [] (b ∷ t) h = absurd (not-suc-le-zero h)
-put-front (x ∷ o) (b ∷ t) h = shift b o 0 t ∙ ap (λ (l : List ℕ). b ∷ l) (put-front o t (le-of-suc-le-suc h))
+put-front o t h = sets-eq t o 0 (omega arith) ∙ ap (λ (k : ℕ). t ++ drop k o) (zero-add (length t))
 
 -- ---- one piece after the other
 
@@ -220,10 +212,23 @@ hexadecimal-length zero n = refl
 hexadecimal-length (suc c) n =
     length-append (hexadecimal c (n / 16)) (hexDigit (n % 16) ∷ []) ∙ ap (λ (m : ℕ). m + 1) (hexadecimal-length c (n / 16)) ∙ add-one c
 
-pub hex-low : (d : ℕ) → d < 10 → 48 + d ≡ hexDigit d
-unfolding hexDigit
-hex-low d h = rw (lt-ltb d 10 h) refl
+-- each byte of a table, from place k on, is its place's digit
+areDigits : (k : ℕ) → List ℕ → Bool
+areDigits k [] = true
+areDigits k (x ∷ xs) = eqb x (hexDigit k) && areDigits (suc k) xs
 
-pub hex-high : (d : ℕ) → 10 ≤ d → 87 + d ≡ hexDigit d
-unfolding hexDigit
-hex-high d h = rw (le-ltb d 10 h) refl
+digit-at : (k : ℕ) (xs : List ℕ) → areDigits k xs ≡ true → (d : ℕ) → d < length xs → getD xs d 0 ≡ hexDigit (k + d)
+unfolding areDigits
+digit-at k [] e d h = absurd (omega arith)
+digit-at k (x ∷ xs) e zero h = eqb-true _ _ (and-eq-true-iff (eqb x (hexDigit k)) (areDigits (suc k) xs) .0 e .0) ∙ ap hexDigit (sym (add-zero k))
+digit-at k (x ∷ xs) e (suc d) h =
+    digit-at (suc k) xs (and-eq-true-iff (eqb x (hexDigit k)) (areDigits (suc k) xs) .0 e .1) d (le-of-suc-le-suc h)
+    ∙ ap hexDigit (suc-add k d ∙ sym (add-suc k d))
+
+-- the bytes of 0 to 9 and a to f
+abbrev pub hexTable : List ℕ
+hexTable = 48 ∷ 49 ∷ 50 ∷ 51 ∷ 52 ∷ 53 ∷ 54 ∷ 55 ∷ 56 ∷ 57 ∷ 97 ∷ 98 ∷ 99 ∷ 100 ∷ 101 ∷ 102 ∷ []
+
+pub hex-table : (d : ℕ) → d < 16 → getD hexTable d 0 ≡ hexDigit d
+unfolding hexDigit areDigits
+hex-table d h = digit-at 0 hexTable refl d h ∙ ap hexDigit (zero-add d)

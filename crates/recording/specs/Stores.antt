@@ -1,16 +1,16 @@
 -- Text stored into a lent list: what the functions that store a piece ask and promise.
-use Prim.Native.Nat.{ℕ, suc, _+_, _/_, _%_, _≤_, _<_}
+use Prim.Native.Nat.{ℕ, _+_, _/_, _%_, _≤_, _<_}
 use mathlib.Core.Path.{_≡_}
 use mathlib.Core.List.{List, [], _∷_}
-use lib.ListN.{set, length}
+use lib.ListN.{length}
+use lib.Seq.{sets}
 use Rattle.recording.specs.declared.night.End.{End}
 use Rattle.recording.specs.declared.night.End.the-variants.{Open, Closed, Refused, NoNight}
 
--- o with the bytes of t from place k on, and every other place as it was; what runs past o's end is dropped. (The
--- kit's `sets`, but that it doesn't unfold by itself.)
+-- o with the bytes of t from place k on, and every other place as it was; what runs past o's end is dropped. (The kit's `sets`, under a
+-- name that doesn't unfold by itself.)
 unfoldable pub put : List ℕ → ℕ → List ℕ → List ℕ
-put o k [] = o
-put o k (b ∷ t) = put (set o k b) (suc k) t
+put o k t = sets o k t
 
 -- A list has room for t from place k on.
 pub record Room (o : List ℕ) (k : ℕ) (t : List ℕ) : Type 0 where

@@ -91,9 +91,12 @@ fn put_hex_byte(out: &mut [u8], at: usize, n: u64) -> usize
     put_byte(out, last, hex_digit(n % 16))
 }
 
+// The digits from 0 to f.
+const HEX_DIGITS: [u8; 16] = *b"0123456789abcdef";
+
 fn hex_digit(d: u64) -> u8
     requires { ⌜ d < 16 ⌝ }
     ensures { λ r. ⌜ r ≡ hexDigit d ⌝ }
 {
-    if d < 10 { b'0' + d as u8 } else { 87 + d as u8 }
+    HEX_DIGITS[d as usize]
 }

@@ -1,6 +1,5 @@
 -- `recording::night::next_line` meets its contract. Assumes nothing.
 use Rattle.recording.proofs.NightLaws.{next-none, next-over, next-read, next-refused}
-use mathlib.Core.Path.{sym, _∙_}
 use borrow.Author.Needs.{needs}
 use Rattle.recording.proofs.night.next_line.Statement.{statement}
 use Rattle.recording.proofs.night.next_line.Tie as tie

@@ -1,27 +1,14 @@
 -- `recording::text::hex_digit` meets its contract. Assumes nothing.
-use Rattle.recording.proofs.TextLaws.{hex-low, hex-high}
+use Rattle.recording.proofs.TextLaws.{hex-table}
 use borrow.Author.Needs.{needs}
 use Rattle.recording.proofs.text.hex_digit.Statement.{statement}
 use Rattle.recording.proofs.text.hex_digit.Tie as tie
 
-cast-result : tie.Need-cast-result
-cast-result c = search needs
-
-add-result : tie.Need-add-result
-add-result c = search needs
-
-cast-result-2 : tie.Need-cast-result-2
-cast-result-2 c = search needs
-
-add-result-2 : tie.Need-add-result-2
-add-result-2 c = search needs
+array-read-result : tie.Need-array-read-result
+array-read-result c = search needs
 
 returns : tie.Need-returns
-returns c = hex-low _ (c .if1 .taken)
-
-returns-2 : tie.Need-returns-2
-returns-2 c = hex-high _ (c .if1 .left)
+returns c = hex-table _ (c .pre)
 
 pub hex-digit-spec : {M : Type 1} → statement M
-hex-digit-spec =
-    tie.close (tie.spec cast-result add-result cast-result-2 add-result-2 returns returns-2)
+hex-digit-spec = tie.close (tie.spec array-read-result returns)
