@@ -12,7 +12,7 @@ use borrow.Author.Tests.{leb-true, le-leb}
 use Rattle.breaths.specs.declared.breath.Breath.{Breath}
 use Rattle.recording.specs.Lines.{lengthBefore, readLine}
 use Rattle.recording.specs.Listing.{breathLine, endLine, begun, withLine, nextOf, listingFrom, listingOn, listingOf, atStart}
-use Rattle.recording.specs.Pieces.{isNight, Listed, stay, onward, isSure, piecesFrom, pieceOf, goesOn, restOf, answerOf}
+use Rattle.recording.specs.Pieces.{isNight, Listed, stay, onward, isSure, piecesFrom, pieceOf, goesOn, restOf, MakesListing, answerOf}
 use Rattle.recording.specs.Stores.{Room, Stored, Final}
 use Rattle.recording.specs.declared.line.Entry.{Entry}
 use Rattle.recording.specs.declared.night.Night.{Night}
@@ -200,6 +200,10 @@ unfolding listingOn pieceOf
 piece-listing night bs more last room e ends =
     let r : Real night = night-real night e in
     rw (e) (goes more last ends (65538 - night .line) night bs room r (omega (arith, r .few)))
+
+pub makes-listing : (night : Night) (bs : List ℕ) (last : Bool) (room : ℕ) → MakesListing night bs last room
+unfolding MakesListing
+makes-listing night bs last room more e ends = piece-listing night bs more last room e ends
 
 -- ---- what holds of every piece
 
@@ -471,7 +475,8 @@ pub text-within : (t o o′ : List ℕ) (k : ℕ) → k ≡ length t → o′ �
 text-within t o o′ k e f = omega (arith, ap length f, length-append t (drop (length t) o))
 
 -- for a caller that goes on behind a piece
-pub piece-answer : (night : Night) (bs : List ℕ) (last : Bool) (o o′ : List ℕ) (p : Piece) → isNight night ≡ true → Answers (pieceOf night bs last (length o)) o o′ p
+pub piece-answer : (night : Night) (bs : List ℕ) (last : Bool) (o o′ : List ℕ) (p : Piece) → isNight night ≡ true
+    → (p ≡ answerOf (pieceOf night bs last (length o))) × ((o′ ≡ atStart (pieceOf night bs last (length o) .text) o) × MakesListing night bs last (length o))
     → (p .used ≤ length bs) × (p .length ≤ length o′) × (isNight (p .night) ≡ true)
 unfolding answerOf
 piece-answer night bs last o o′ p e a =
@@ -479,4 +484,4 @@ piece-answer night bs last o o′ p e a =
     let s : Sound bs (length o) l = piece-sound night bs last (length o) e in
     let used : p .used ≡ l .used = ap (λ (q : Piece). q .used) (a .0) in
     let behind : p .night ≡ l .night = ap (λ (q : Piece). q .night) (a .0) in
-    (omega (arith, s .used), text-within (l .text) o o′ (p .length) (ap (λ (q : Piece). q .length) (a .0)) (a .1), ap isNight behind ∙ real-night (l .night) (s .real))
+    (omega (arith, s .used), text-within (l .text) o o′ (p .length) (ap (λ (q : Piece). q .length) (a .0)) (a .1 .0), ap isNight behind ∙ real-night (l .night) (s .real))

@@ -1,5 +1,6 @@
 -- A listing made in pieces: what is listed of some bytes where others may follow them.
 use Prim.Native.Nat.{ℕ, zero, suc, _+_, _-_, _*_}
+use mathlib.Core.Path.{_≡_}
 use mathlib.Core.Bool.{Bool, true, false, _&&_, _||_}
 use mathlib.Core.List.{List, [], _++_}
 use lib.Dec.{leb}
@@ -65,6 +66,13 @@ goesOn NoNight night bs = []
 
 unfoldable pub restOf : Listed → (bs more : List ℕ) → List ℕ
 restOf l bs more = goesOn (l .end) (l .night) (drop (l .used) bs ++ more)
+
+-- Pieces make the listing: from a night on, that of some bytes and whatever follows them is the piece's text, and then what it goes on with.
+-- (Nothing follows the last bytes.)
+unfoldable pub MakesListing : Night → List ℕ → (last : Bool) (room : ℕ) → Type 0
+MakesListing night bs last room =
+    (more : List ℕ) → isNight night ≡ true → (last ≡ true → more ≡ [])
+    → listingOn night (bs ++ more) ≡ pieceOf night bs last room .text ++ restOf (pieceOf night bs last room) bs more
 
 -- How a piece is answered: the text stands in the lent list, and its length is told.
 unfoldable pub answerOf : Listed → Piece

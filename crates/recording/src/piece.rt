@@ -3,7 +3,7 @@ ghost use mathlib.Core.Path.{_≡_};
 ghost use mathlib.Core.Bool.{true};
 ghost use lib.ListN.{length};
 ghost use Rattle.recording.specs.Listing.{listingOf, atStart};
-ghost use Rattle.recording.specs.Pieces.{isNight, pieceOf, answerOf};
+ghost use Rattle.recording.specs.Pieces.{isNight, pieceOf, answerOf, MakesListing};
 use crate::line::MOST_BYTES;
 use crate::listing::put_breath;
 use crate::listing::put_end;
@@ -65,6 +65,7 @@ fn put_lines(night: Night, bytes: &[u8], last: bool, out: &mut [u8]) -> Piece
 pub fn list_piece(night: Night, bytes: &[u8], last: bool, out: &mut [u8]) -> Piece
     ensures answered { λ r. ⌜ r ≡ answerOf (pieceOf night (now (bytes .entry)) last (length (now (out .entry)))) ⌝ }
     ensures stored { λ _. ⌜ now (out .exit) ≡ atStart (pieceOf night (now (bytes .entry)) last (length (now (out .entry))) .text) (now (out .entry)) ⌝ }
+    ensures listing { λ _. ⌜ MakesListing night (now (bytes .entry)) last (length (now (out .entry))) ⌝ }
 {
     if !is_night(night) {
         return Piece {

@@ -1,5 +1,5 @@
 -- `recording::piece::list_piece` meets its contract. Assumes nothing.
-use Rattle.recording.proofs.PieceLaws.{piece-none}
+use Rattle.recording.proofs.PieceLaws.{piece-none, makes-listing}
 use borrow.Author.Tests.{not-true, not-false}
 use mathlib.Core.Path.{sym, _∙_}
 use borrow.Author.Needs.{needs}
@@ -10,7 +10,7 @@ is-night-requires : tie.Need-is-night-requires
 is-night-requires c κs = search needs
 
 returns : tie.Need-returns
-returns c = piece-none _ _ _ _ (sym (c .before .is-night .ensures) ∙ not-true _ (c .if1 .taken))
+returns c = let p = piece-none _ _ _ _ (sym (c .before .is-night .ensures) ∙ not-true _ (c .if1 .taken)) in (p .0, (p .1, makes-listing _ _ _ _))
 
 put-lines-requires : tie.Need-put-lines-requires
 put-lines-requires c κs = sym (c .before .before .is-night .ensures) ∙ not-false _ (c .before .if1 .left)
@@ -19,7 +19,7 @@ same-length : tie.Need-same-length
 same-length c = search needs
 
 returns-2 : tie.Need-returns-2
-returns-2 c = search needs
+returns-2 c = (c .before .before .put-lines .ensures .0, (c .before .before .put-lines .ensures .1, makes-listing _ _ _ _))
 
 pub list-piece-spec : {M : Type 1} → statement M
 list-piece-spec = tie.close (tie.spec is-night-requires returns put-lines-requires same-length returns-2)
