@@ -38,8 +38,8 @@ fn main() {
     let mut night = Night::begun();
     let mut held = 0;
     let mut last = false;
-    // A program has to end: a turn reads a byte or lists a line, and 2,162,689 bytes and 65,537 lines
-    // make every listing.
+    // A program has to end: a turn reads a byte or lists a line, and no listing takes more than 65,537
+    // lines of 33 bytes.
     let mut turns: u64 = 2300000;
     while turns > 0 {
         let input = input::read_more(STDIN_FILENO, &mut bytes, held, last);

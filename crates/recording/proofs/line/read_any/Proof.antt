@@ -18,7 +18,7 @@ length-before-requires : tie.Need-length-before-requires
 length-before-requires c κs = search needs
 
 returns : tie.Need-returns
-returns c = line-none _ _ (c .before .before .before .min .ensures) _ (c .before .length-before .ensures .1) (c .if1 .taken)
+returns c = line-none (c .before .before .before .before .before .args .bytes .now) (c .before .before .before .min .result) (omega (arith, c .before .before .before .min .ensures)) _ (c .before .length-before .ensures .1) (c .if1 .taken)
 
 add-read-fields : tie.Need-add-read-fields
 add-read-fields c = omega (arith, length-take (c .before .before .before .min .result) (c .before .before .before .before .before .args .bytes .now))
@@ -30,7 +30,7 @@ read-fields-requires : tie.Need-read-fields-requires
 read-fields-requires c κs = search needs
 
 returns-2 : tie.Need-returns-2
-returns-2 c = line-some _ _ (c .before .before .before .before .before .min .ensures) _ (c .before .before .before .length-before .ensures .1) (omega (arith, c .before .before .before .length-before .ensures .0)) _ (c .read-fields .ensures)
+returns-2 c = line-some (c .before .before .before .before .before .before .before .args .bytes .now) (c .before .before .before .before .before .min .result) (omega (arith, c .before .before .before .before .before .min .ensures)) _ (c .before .before .before .length-before .ensures .1) (omega (arith, c .before .before .before .length-before .ensures .0)) _ (c .read-fields .ensures)
 
 pub read-any-spec : {M : Type 1} → statement M
 read-any-spec =

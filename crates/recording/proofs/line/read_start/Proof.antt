@@ -1,5 +1,6 @@
 -- `recording::line::read_start` meets its contract. Assumes nothing.
 use Rattle.recording.proofs.StartLaws.{opens}
+use native.Mathlib.Omega.{arith}
 use mathlib.Core.Logic.{⊎-elim, inl, inr}
 use borrow.Author.Needs.{needs}
 use Rattle.recording.proofs.line.read_start.Statement.{statement}
@@ -40,7 +41,7 @@ add-t6 c = search needs
 
 returns-5 : tie.Need-returns-5
 returns-5 c =
-    opens _ (c .before .before .before .before .before .before .before .before .before .before .pre) (c .before .before .before .before .before .before .before .before .leading-digits .ensures) (c .before .before .before .before .before .before .if1 .left) (c .before .before .before .before .before .if2 .left) (c .before .before .before .if3 .left)
+    opens _ (c .before .before .before .before .before .before .before .before .before .before .pre) (c .before .before .before .before .before .before .before .before .leading-digits .ensures) (c .before .before .before .before .before .before .if1 .left) (c .before .before .before .before .before .if2 .left) (omega (arith, c .before .before .before .if3 .left))
     (⊎-elim (λ w. inr (w .1 .left)) (λ w. inl (w .left)) (c .before .if4 .came))
 
 pub read-start-spec : {M : Type 1} → statement M

@@ -1,5 +1,6 @@
 -- `recording::night::closing` meets its contract. Assumes nothing.
 use Rattle.recording.proofs.NightLaws.{closing-empty, closing-all}
+use native.Mathlib.Omega.{arith}
 use borrow.Author.Needs.{needs}
 use Rattle.recording.proofs.night.closing.Statement.{statement}
 use Rattle.recording.proofs.night.closing.Tie as tie
@@ -8,7 +9,7 @@ refusal-requires : tie.Need-refusal-requires
 refusal-requires c κs = search needs
 
 returns : tie.Need-returns
-returns c = closing-empty _ (c .before .if1 .taken) _ (c .refusal .ensures)
+returns c = closing-empty _ (omega (arith, c .before .if1 .taken)) _ (c .refusal .ensures)
 
 returns-2 : tie.Need-returns-2
 returns-2 c = closing-all _ (c .if1 .left)
