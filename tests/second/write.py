@@ -1,7 +1,4 @@
-"""Writes the programs' inputs and what they must print: python3 write.py [--all] DIR.
-
-With --all the files of programs that the tree doesn't have yet are written too.
-"""
+"""Writes the programs' inputs and what they must print: python3 write.py DIR."""
 
 import os
 import sys
@@ -18,21 +15,10 @@ import night
 # The modules whose requests are written, one after the other.
 CASE_MODULES = [cases_words, cases_binary, cases_unary, cases_vectors]
 
-# The letters of the requests that the library has the functions for.
-LETTERS = "frwncbBoOvVgGquUxyz"
-
-# The crates of the tree.
-CRATES = os.path.join(os.path.dirname(os.path.abspath(__file__)), "..", "..", "crates")
-
 
 def outputs():
     """Each file there is: its crate, its name, and its parts as bytes."""
-    requests = [
-        line
-        for module in CASE_MODULES
-        for line in module.requests()
-        if line[0] in LETTERS
-    ]
+    requests = [line for module in CASE_MODULES for line in module.requests()]
     yield "cases", "stdin", as_lines(requests)
     yield "cases", "stdout", as_lines(map(answers.answer, requests))
     longest = cases_night.longer_than_any()
@@ -40,11 +26,6 @@ def outputs():
     yield "night", "stdout", [night.listing(longest)]
     yield "night_cases", "stdin", as_lines(cases_night.recipes())
     yield "night_cases", "stdout", cases_night.answers()
-
-
-def is_crate(name):
-    """Whether the tree has a crate of this name."""
-    return os.path.isdir(os.path.join(CRATES, name))
 
 
 def as_lines(texts):
@@ -61,13 +42,11 @@ def write_file(path, parts):
 
 def main():
     """Checks this program, then writes every file below the directory named."""
-    options, names = sys.argv[1:-1], sys.argv[-1:]
-    if options not in ([], ["--all"]) or names[0].startswith("-") or len(sys.argv) < 2:
-        sys.exit("usage: python3 write.py [--all] DIR")
+    if len(sys.argv) != 2:
+        sys.exit("usage: python3 write.py DIR")
     checks.check_all()
     for crate, name, parts in outputs():
-        if options or is_crate(crate):
-            write_file(os.path.join(*names, crate, name), parts)
+        write_file(os.path.join(sys.argv[1], crate, name), parts)
 
 
 if __name__ == "__main__":

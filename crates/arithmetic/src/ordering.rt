@@ -25,6 +25,7 @@ pub enum Comparison {
     Stopped(Stop),
 }
 
+// 2^62, where 0 lies on a line of numbers below 2^62 with signs.
 const ZERO: u64 = 4611686018427387904;
 
 fn size_order(m: u64, n: u64) -> Order

@@ -4,16 +4,9 @@ use crate::operations;
 use crate::operations::count;
 use crate::operations::show_word;
 use crate::show;
+use crate::words::show_number;
 use slash::Answer;
 use slash::Format;
-
-// A number in decimal, or a stop in full.
-fn show_decimal(a: Answer) {
-    match a {
-        Answer::Done(n) => show::number(n),
-        Answer::Stopped(s) => show::stop(s),
-    }
-}
 
 // u KIND K CODE WORD
 pub(crate) fn operation(f: Format, code: u64, w: u64) {
@@ -32,7 +25,7 @@ pub(crate) fn operation_all(f: Format, code: u64) {
 
 // g KIND K WORD
 pub(crate) fn gcd(f: Format, w: u64) {
-    show_decimal(unary::gcd(f, w));
+    show_number(unary::gcd(f, w));
 }
 
 // One of many answers, parted by spaces; a stop is ! and its number.
@@ -83,6 +76,6 @@ pub(crate) fn quotients(f: Format, length: u64, w: u64) {
     let mut list = [4242u32; 70];
     let n = at_most_70(length);
     let lent = &mut list[..n];
-    show_decimal(unary::quotients(f, w, lent));
+    show_number(unary::quotients(f, w, lent));
     show_list(lent);
 }

@@ -10,8 +10,8 @@ use slash::Reading;
 use slash::Rounding;
 use slash::Value;
 
-// An answer that is one number.
-fn show_number(a: Answer) {
+// An answer that is one number, in decimal, or a stop in full.
+pub(crate) fn show_number(a: Answer) {
     match a {
         Answer::Done(n) => show::number(n),
         Answer::Stopped(s) => show::stop(s),

@@ -1,5 +1,5 @@
--- What a call comes to, in the paper's terms. Each answer of the library is an enum with two cases, Done and Stopped; here is what each of
--- its cases says.
+-- What a call comes to, in the paper's terms. The answer of a call that can stop is an enum with two cases, Done (or Good) and Stopped; here
+-- is what each of its cases says.
 use Prim.Native.Nat.{ℕ}
 use Rattle.slash.specs.declared.answer.Answer.{Answer}
 use Rattle.slash.specs.declared.answer.Answer.the-variants as Answer
