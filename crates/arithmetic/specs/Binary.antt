@@ -1,8 +1,9 @@
 -- The four binary operations: the exact result, rounded once.
-use Prim.Native.Nat.{ℕ, _+_, _-_, _*_}
+use Prim.Native.Nat.{ℕ, _+_, _*_}
 use mathlib.Core.Bool.{Bool, true, false, not, _&&_, _||_}
 use lib.Dec.{leb, eqb}
 use Rattle.convergents.specs.Choice.{if_then_else_}
+use Rattle.convergents.specs.Pairs.{apart}
 use Rattle.slash.specs.Answers.{Outcome, stop, done, _then_}
 use Rattle.slash.specs.Formats.{whenKnown}
 use Rattle.slash.specs.Words.{numberOf, checkWord, wordFor, isNan}
@@ -19,7 +20,7 @@ use Rattle.arithmetic.specs.declared.operand.Operand.the-variants.{Finit
 
 -- The size of ad ± bc: plus where the two terms have the same sign, minus otherwise.
 unfoldable pub sumSize : (opposed : Bool) → ℕ → ℕ → ℕ
-sumSize true ad bc = (ad - bc) + (bc - ad)
+sumSize true ad bc = apart ad bc
 sumSize false ad bc = ad + bc
 
 -- The larger term's sign; an exact sum of 0 has sign 0.

@@ -1,15 +1,16 @@
 -- Operands: a word's value as the operations take it.
 use mathlib.Core.Bool.{Bool, false, not, Bool·beq}
 use Rattle.slash.specs.Steps.{SmallParts}
+use Rattle.slash.specs.Words.{partsOf}
 use Rattle.slash.specs.declared.number.Value.{Value}
 use Rattle.slash.specs.declared.number.Value.the-variants.{Fraction, Zero, Infinity, NotANumber}
 use Rattle.arithmetic.specs.declared.operand.Operand.{Operand}
 use Rattle.arithmetic.specs.declared.operand.Operand.the-variants.{Finite, Infinite}
 
--- Finite operands are read by their fields as a/b, zero as 0/1, the sign apart. (Not-a-number is taken out before: `isNan`.)
+-- Finite operands are read by their fields as a/b, zero as 0/1 (`partsOf`), the sign apart. (Not-a-number is taken out before: `isNan`.)
 unfoldable pub operandOf : Value → Operand
 operandOf (Fraction p) = Finite p
-operandOf (Zero s) = Finite (record { negative = s; numerator = 0; denominator = 1 })
+operandOf (Zero s) = Finite (partsOf (Zero s))
 operandOf (Infinity s) = Infinite s
 operandOf NotANumber = Infinite false
 

@@ -17,9 +17,13 @@ pair r s = record { numerator = r; denominator = s }
 abbrev pub Lowest : ℕ → ℕ → Type 0
 Lowest n d = (g : ℕ) → g ∣ n → g ∣ d → g ≡ 1
 
--- The miss of r/s for N/D: the size of s times N less r times D. (Of the two differences one is 0.)
+-- The size of m less n. (Of the two differences one is 0.)
+abbrev pub apart : ℕ → ℕ → ℕ
+apart m n = (m - n) + (n - m)
+
+-- The miss of r/s for N/D: the size of s times N less r times D.
 abbrev pub miss : ℕ → ℕ → Pair → ℕ
-miss N D x = (x .denominator * N - x .numerator * D) + (x .numerator * D - x .denominator * N)
+miss N D x = apart (x .denominator * N) (x .numerator * D)
 
 -- Whether the value of a pair isn't N/D.
 unfoldable pub differs : ℕ → ℕ → Pair → Bool

@@ -10,7 +10,7 @@ use Rattle.slash.specs.Bits.{bit, bitOf}
 use Rattle.slash.specs.Formats.{widthOf, whenKnown}
 use Rattle.slash.specs.Rounding.{rounded}
 use Rattle.slash.specs.Signed.{signedOf}
-use Rattle.slash.specs.Words.{numberOf, checkWord, wordFor, isNan}
+use Rattle.slash.specs.Words.{numberOf, checkWord, wordFor, isNan, partsOf}
 use Rattle.slash.specs.declared.format.Format.{Format}
 use Rattle.slash.specs.declared.number.Parts.{Parts}
 use Rattle.slash.specs.declared.number.Value.{Value}
@@ -37,10 +37,7 @@ signTouched f code w = withHighest (signBit f) (newSign code (bit (signBit f) w)
 
 -- What that comes to, of what the words say: the sign of a value, and the value with another one. (Not-a-number has none.)
 unfoldable pub signIn : Value → Bool
-signIn (Fraction p) = p .negative
-signIn (Zero s) = s
-signIn (Infinity s) = s
-signIn NotANumber = false
+signIn v = partsOf v .negative
 
 unfoldable pub withSign : Bool → Value → Value
 withSign s (Fraction p) = Fraction (record { negative = s; numerator = p .numerator; denominator = p .denominator })
