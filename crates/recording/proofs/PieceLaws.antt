@@ -4,7 +4,7 @@ use mathlib.Core.Bool.{Bool, true, false, _&&_, _||_, and-eq-true-iff}
 use mathlib.Core.List.{List, [], _++_, append-assoc, append-nil}
 use Prim.Native.Nat.{ℕ, zero, suc, _+_, _-_, _*_, _≤_, _<_}
 use native.Mathlib.Omega.{arith}
-use native.Mathlib.Nat.{add-zero, zero-add, add-assoc, sub-zero}
+use native.Mathlib.Nat.{add-zero, zero-add, suc-add, add-assoc, sub-zero}
 use lib.Dec.{leb}
 use lib.ListN.{length, take, drop, length-append, length-take, length-drop}
 use lib.Seq.{take-take, take-append-seam, drop-append-le, drop-drop}
@@ -12,7 +12,7 @@ use borrow.Author.Tests.{leb-true, le-leb}
 use Rattle.breaths.specs.declared.breath.Breath.{Breath}
 use Rattle.recording.specs.Lines.{lengthBefore, readLine}
 use Rattle.recording.specs.Listing.{breathLine, endLine, begun, withLine, nextOf, listingFrom, listingOn, listingOf, atStart}
-use Rattle.recording.specs.Pieces.{isNight, Listed, stay, onward, isSure, piecesFrom, pieceOf, goesOn, restOf, MakesListing, answerOf}
+use Rattle.recording.specs.Pieces.{isNight, Listed, stay, onward, isSure, pieceFrom, pieceOf, goesOn, restOf, MakesListing, answerOf}
 use Rattle.recording.specs.Stores.{Room, Stored, Final}
 use Rattle.recording.specs.declared.line.Entry.{Entry}
 use Rattle.recording.specs.declared.night.Night.{Night}
@@ -57,24 +57,24 @@ module _ (steps : ℕ) (night : Night) (bs : List ℕ) where
     surely (Ended end) = stay night (endLine (night .sums) end) end
     surely (More entry) =
         onward (breathLine (night .line) (entry .breath)) (entry .used)
-        (piecesFrom steps (withLine night (entry .breath)) (drop (entry .used) bs) last (room - length (breathLine (night .line) (entry .breath))))
+        (pieceFrom steps (withLine night (entry .breath)) (drop (entry .used) bs) last (room - length (breathLine (night .line) (entry .breath))))
 
-    pieces-step : (t : Bool) → isSure bs last room ≡ t → piecesFrom (suc steps) night bs last room ≡ elim t [ true ↦ surely (nextOf night bs) | false ↦ stay night [] Open ]
-    unfolding piecesFrom surely
+    pieces-step : (t : Bool) → isSure bs last room ≡ t → pieceFrom (suc steps) night bs last room ≡ elim t [ true ↦ surely (nextOf night bs) | false ↦ stay night [] Open ]
+    unfolding pieceFrom surely
     pieces-step t e = ap (λ (y : Bool). elim y as (λ z. Listed) [ true ↦ surely (nextOf night bs) | false ↦ stay night [] Open ]) e
 
-    pieces-open : isSure bs last room ≡ false → piecesFrom (suc steps) night bs last room ≡ stay night [] Open
+    pieces-open : isSure bs last room ≡ false → pieceFrom (suc steps) night bs last room ≡ stay night [] Open
     pieces-open f = pieces-step false f
 
     module _ (sure : isSure bs last room ≡ true) where
-      pieces-ended : (end : End) → nextOf night bs ≡ Ended end → piecesFrom (suc steps) night bs last room ≡ stay night (endLine (night .sums) end) end
+      pieces-ended : (end : End) → nextOf night bs ≡ Ended end → pieceFrom (suc steps) night bs last room ≡ stay night (endLine (night .sums) end) end
       unfolding surely
       pieces-ended end e = pieces-step true sure ∙ ap surely e
 
       pieces-more : (entry : Entry) → nextOf night bs ≡ More entry
-          → piecesFrom (suc steps) night bs last room
+          → pieceFrom (suc steps) night bs last room
           ≡ onward (breathLine (night .line) (entry .breath)) (entry .used)
-          (piecesFrom steps (withLine night (entry .breath)) (drop (entry .used) bs) last (room - length (breathLine (night .line) (entry .breath))))
+          (pieceFrom steps (withLine night (entry .breath)) (drop (entry .used) bs) last (room - length (breathLine (night .line) (entry .breath))))
       unfolding surely
       pieces-more entry e = pieces-step true sure ∙ ap surely e
 
@@ -107,6 +107,24 @@ module _ (night : Night) (r : Real night) (bs : List ℕ) where
 next-number : (night : Night) (b : Breath) → withLine night b .line ≡ suc (night .line)
 unfolding withLine
 next-number night b = refl
+
+-- More steps than up to line 65,537 change nothing.
+pub listing-steps : (steps more : ℕ) (night : Night) (bs : List ℕ) → Real night → night .line + steps ≡ 65538
+    → listingFrom (steps + more) night bs ≡ listingFrom steps night bs
+listing-steps zero more night bs r e = absurd (omega (arith, r .few))
+listing-steps (suc steps) more night bs r e =
+    ap (λ (k : ℕ). listingFrom k night bs) (suc-add steps more) ∙ go (nextOf night bs) refl (λ n rest i h. listing-steps steps more n rest i h)
+  where
+    go : (x : Next) → nextOf night bs ≡ x
+        → ((n : Night) (rest : List ℕ) → Real n → n .line + steps ≡ 65538 → listingFrom (steps + more) n rest ≡ listingFrom steps n rest)
+        → listingFrom (suc (steps + more)) night bs ≡ listingFrom (suc steps) night bs
+    go (Ended end) n ih = listing-ended (steps + more) night bs end n ∙ sym (listing-ended steps night bs end n)
+    go (More entry) n ih =
+        let b : Breath = entry .breath in
+        let number : withLine night b .line + steps ≡ 65538 = omega (arith, next-number night b) in
+        listing-more (steps + more) night bs entry n
+        ∙ ap (λ (u : List ℕ). breathLine (night .line) b ++ u) (ih (withLine night b) (drop (entry .used) bs) (follows-real night r bs entry n) number)
+        ∙ sym (listing-more steps night bs entry n)
 
 -- ---- the bytes that follow
 
@@ -155,9 +173,9 @@ ended-none NoNight night bs f = absurd f
 module _ (more : List ℕ) (last : Bool) (ends : last ≡ true → more ≡ []) where
   abbrev Goes : (steps : ℕ) → Night → List ℕ → ℕ → Type 0
   Goes steps night bs room =
-      listingFrom steps night (bs ++ more) ≡ piecesFrom steps night bs last room .text ++ restOf (piecesFrom steps night bs last room) bs more
+      listingFrom steps night (bs ++ more) ≡ pieceFrom steps night bs last room .text ++ restOf (pieceFrom steps night bs last room) bs more
 
-  goes-stay : (steps : ℕ) (night : Night) (bs : List ℕ) (room : ℕ) (text : List ℕ) (end : End) → piecesFrom steps night bs last room ≡ stay night text end
+  goes-stay : (steps : ℕ) (night : Night) (bs : List ℕ) (room : ℕ) (text : List ℕ) (end : End) → pieceFrom steps night bs last room ≡ stay night text end
       → listingFrom steps night (bs ++ more) ≡ text ++ goesOn end night (bs ++ more) → Goes steps night bs room
   unfolding stay restOf
   goes-stay steps night bs room text end p e = e ∙ ap (λ (l : Listed). l .text ++ restOf l bs more) (sym p)
@@ -182,7 +200,7 @@ module _ (more : List ℕ) (last : Bool) (ends : last ≡ true → more ≡ []) 
       go true t (More entry) n ih =
           let line : List ℕ = breathLine (night .line) (entry .breath) in
           let behind : Night = withLine night (entry .breath) in
-          let l : Listed = piecesFrom steps behind (drop (entry .used) bs) last (room - length line) in
+          let l : Listed = pieceFrom steps behind (drop (entry .used) bs) last (room - length line) in
           let number : behind .line + steps ≡ 65538 = omega (arith, next-number night (entry .breath)) in
           listing-more steps night (bs ++ more) entry (sure-next night bs more last room ends t ∙ n)
           ∙ ap (λ (u : List ℕ). line ++ listingFrom steps behind u) (drop-append-le (entry .used) bs more (follows-more night r bs entry n .1 .within))
@@ -227,14 +245,14 @@ sound-onward bs room line used l u h s =
       real = s .real;
     }
 
-sound : (steps : ℕ) (night : Night) (bs : List ℕ) (last : Bool) (room : ℕ) → Real night → Sound bs room (piecesFrom steps night bs last room)
-unfolding piecesFrom
+sound : (steps : ℕ) (night : Night) (bs : List ℕ) (last : Bool) (room : ℕ) → Real night → Sound bs room (pieceFrom steps night bs last room)
+unfolding pieceFrom
 sound zero night bs last room r = sound-stay bs room night [] Open r (omega arith)
 sound (suc steps) night bs last room r = go (isSure bs last room) refl (nextOf night bs) refl (λ n b m i. sound steps n b last m i)
   where
     go : (t : Bool) → isSure bs last room ≡ t → (x : Next) → nextOf night bs ≡ x
-        → ((n : Night) (b : List ℕ) (m : ℕ) → Real n → Sound b m (piecesFrom steps n b last m))
-        → Sound bs room (piecesFrom (suc steps) night bs last room)
+        → ((n : Night) (b : List ℕ) (m : ℕ) → Real n → Sound b m (pieceFrom steps n b last m))
+        → Sound bs room (pieceFrom (suc steps) night bs last room)
     go false t x n ih = subst (Sound bs room) (sym (pieces-open steps night bs last room t)) (sound-stay bs room night [] Open r (omega arith))
     go true t (Ended end) n ih =
         let few : length (endLine (night .sums) end) ≤ room =
@@ -249,7 +267,7 @@ sound (suc steps) night bs last room r = go (isSure bs last room) refl (nextOf n
         (sound-onward bs room line (entry .used) _ (follows-more night r bs entry n .1 .within) few rest)
 
 piece-is : (night : Night) (bs : List ℕ) (last : Bool) (room : ℕ) → isNight night ≡ true
-    → pieceOf night bs last room ≡ piecesFrom (65538 - night .line) night bs last room
+    → pieceOf night bs last room ≡ pieceFrom (65538 - night .line) night bs last room
 unfolding pieceOf
 piece-is night bs last room e = rw (e) refl
 
@@ -263,14 +281,14 @@ piece-sound night bs last room e =
 whole-step : (steps : ℕ) (night : Night) (bs : List ℕ) (room most : ℕ) → Real night → 33 ≤ room
     → ((b : Breath) → length (breathLine (night .line) b) ≤ most)
     → ((n : Night) (rest : List ℕ) (left : ℕ) → Real n → n .line ≡ suc (night .line) → room ≤ left + most
-    → piecesFrom steps n rest true left .text ≡ listingFrom steps n rest)
-    → piecesFrom (suc steps) night bs true room .text ≡ listingFrom (suc steps) night bs
+    → pieceFrom steps n rest true left .text ≡ listingFrom steps n rest)
+    → pieceFrom (suc steps) night bs true room .text ≡ listingFrom (suc steps) night bs
 whole-step steps night bs room most r h short ih = go (nextOf night bs) refl
   where
     sure : isSure bs true room ≡ true
     sure = sure-last bs room h
 
-    go : (x : Next) → nextOf night bs ≡ x → piecesFrom (suc steps) night bs true room .text ≡ listingFrom (suc steps) night bs
+    go : (x : Next) → nextOf night bs ≡ x → pieceFrom (suc steps) night bs true room .text ≡ listingFrom (suc steps) night bs
     go (Ended end) n =
         ap (λ (l : Listed). l .text) (pieces-ended steps night bs true room sure end n)
         ∙ stay-text night (endLine (night .sums) end) end
@@ -281,14 +299,14 @@ whole-step steps night bs room most r h short ih = go (nextOf night bs) refl
         let behind : Night = withLine night b in
         let left : ℕ = room - length line in
         ap (λ (l : Listed). l .text) (pieces-more steps night bs true room sure entry n)
-        ∙ sym (onward-text line (entry .used) (piecesFrom steps behind (drop (entry .used) bs) true left))
+        ∙ sym (onward-text line (entry .used) (pieceFrom steps behind (drop (entry .used) bs) true left))
         ∙ ap (λ (u : List ℕ). line ++ u)
         (ih behind (drop (entry .used) bs) left (follows-real night r bs entry n) (next-number night b) (omega (arith, short b)))
         ∙ sym (listing-more steps night bs entry n)
 
 -- 33 bytes for each line
 whole : (steps : ℕ) (night : Night) (bs : List ℕ) (room : ℕ) → Real night → night .line + steps ≡ 65538 → 33 * steps ≤ room
-    → piecesFrom steps night bs true room .text ≡ listingFrom steps night bs
+    → pieceFrom steps night bs true room .text ≡ listingFrom steps night bs
 whole zero night bs room r e h = absurd (omega (arith, r .few))
 whole (suc steps) night bs room r e h =
     whole-step steps night bs room 33 r (omega arith) (line-length night r bs)
@@ -314,7 +332,7 @@ pub record Piecing (bs : List ℕ) (last : Bool) (o : List ℕ) (night : Night) 
   pub fits : at ≤ length o
   pub text : List ℕ
   pub stored : Stored o 0 text o′ at
-  pub total : pieceOf night bs last (length o) ≡ onward text from (piecesFrom (65538 - next .line) next (drop from bs) last (length o - at))
+  pub total : pieceOf night bs last (length o) ≡ onward text from (pieceFrom (65538 - next .line) next (drop from bs) last (length o - at))
 
 onward-none : (l : Listed) → l ≡ onward [] 0 l
 unfolding onward
@@ -330,8 +348,8 @@ piecing-start bs last o night e =
       stored = store-none o 0;
       total =
           piece-is night bs last (length o) e
-          ∙ ap (λ (room : ℕ). piecesFrom (65538 - night .line) night bs last room) (sym (sub-zero (length o)))
-          ∙ onward-none (piecesFrom (65538 - night .line) night bs last (length o - 0));
+          ∙ ap (λ (room : ℕ). pieceFrom (65538 - night .line) night bs last room) (sym (sub-zero (length o)))
+          ∙ onward-none (pieceFrom (65538 - night .line) night bs last (length o - 0));
     }
 
 onward-onward : (t u : List ℕ) (m n : ℕ) (l : Listed) → onward t m (onward u n l) ≡ onward (t ++ u) (m + n) l
@@ -370,15 +388,15 @@ module _ {bs : List ℕ} {last : Bool} {o : List ℕ} {night : Night} {o′ : Li
   step-is : 65538 - next .line ≡ suc (65537 - next .line)
   step-is = omega (arith, i .real .few)
 
-  here : (l : Listed) → piecesFrom (suc (65537 - next .line)) next (drop from bs) last (length o - at) ≡ l
+  here : (l : Listed) → pieceFrom (suc (65537 - next .line)) next (drop from bs) last (length o - at) ≡ l
       → pieceOf night bs last (length o) ≡ onward (i .text) from l
   here l e =
       i .total
-      ∙ ap (λ (steps : ℕ). onward (i .text) from (piecesFrom steps next (drop from bs) last (length o - at))) step-is
+      ∙ ap (λ (steps : ℕ). onward (i .text) from (pieceFrom steps next (drop from bs) last (length o - at))) step-is
       ∙ ap (onward (i .text) from) e
 
   answered : {o″ : List ℕ} {k : ℕ} (t : List ℕ) (end : End)
-      → piecesFrom (suc (65537 - next .line)) next (drop from bs) last (length o - at) ≡ stay next t end
+      → pieceFrom (suc (65537 - next .line)) next (drop from bs) last (length o - at) ≡ stay next t end
       → Stored o 0 (i .text ++ t) o″ k → k ≤ length o
       → Answers (pieceOf night bs last (length o)) o o″ (record { used = from; length = k; night = next; end = end })
   answered {o″} {k} t end e s h =
@@ -435,7 +453,7 @@ module _ {bs : List ℕ} {last : Bool} {o : List ℕ} {night : Night} {o′ : Li
             let behind : Night = withLine next b in
             let steps : 65537 - next .line ≡ 65538 - behind .line = omega (arith, next-number next b) in
             let left : length o - at - length line ≡ length o - k = omega (arith, s .next) in
-            let l : ℕ → List ℕ → ℕ → Listed = λ n rest m. piecesFrom n behind rest last m in
+            let l : ℕ → List ℕ → ℕ → Listed = λ n rest m. pieceFrom n behind rest last m in
             record {
               real = follows-real next (i .real) (drop from bs) entry (next-here ∙ d);
               within = piecing-used .1;

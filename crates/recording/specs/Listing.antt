@@ -78,7 +78,7 @@ listingFrom (suc steps) night bs =
       | More entry ↦ breathLine (night .line) (entry .breath) ++ listingFrom steps (withLine night (entry .breath)) (drop (entry .used) bs)
     ]
 
--- No more steps are wanted than up to line 65,537, which ends every listing.
+-- Line 65,537 ends every listing, so that the steps up to it are enough (proved: `listing-steps`).
 unfoldable pub listingOn : Night → List ℕ → List ℕ
 listingOn night bs = listingFrom (65538 - night .line) night bs
 

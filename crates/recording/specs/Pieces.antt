@@ -40,21 +40,21 @@ unfoldable pub isSure : List ℕ → (last : Bool) (room : ℕ) → Bool
 isSure bs last room = leb 33 room && (last || leb 33 (length bs))
 
 -- What is listed of some bytes from a night on, in so many steps.
-unfoldable pub piecesFrom : (steps : ℕ) → Night → List ℕ → (last : Bool) (room : ℕ) → Listed
-piecesFrom zero night bs last room = stay night [] Open
-piecesFrom (suc steps) night bs last room =
+unfoldable pub pieceFrom : (steps : ℕ) → Night → List ℕ → (last : Bool) (room : ℕ) → Listed
+pieceFrom zero night bs last room = stay night [] Open
+pieceFrom (suc steps) night bs last room =
     elim (isSure bs last room) [
       | false ↦ stay night [] Open
       | true ↦ elim (nextOf night bs) [
         | Ended end ↦ stay night (endLine (night .sums) end) end
         | More entry ↦ onward (breathLine (night .line) (entry .breath)) (entry .used)
-            (piecesFrom steps (withLine night (entry .breath)) (drop (entry .used) bs) last (room - length (breathLine (night .line) (entry .breath))))
+            (pieceFrom steps (withLine night (entry .breath)) (drop (entry .used) bs) last (room - length (breathLine (night .line) (entry .breath))))
       ]
     ]
 
 -- Where the night is none of a recording, nothing is listed.
 unfoldable pub pieceOf : Night → List ℕ → (last : Bool) (room : ℕ) → Listed
-pieceOf night bs last room = if isNight night then piecesFrom (65538 - night .line) night bs last room else stay night [] NoNight
+pieceOf night bs last room = if isNight night then pieceFrom (65538 - night .line) night bs last room else stay night [] NoNight
 
 -- What a listing goes on with behind a piece: where that is open, with the listing from its night of the bytes that it didn't use and
 -- whatever follows them; else with nothing.
