@@ -16,7 +16,7 @@ fn input_buffer() -> [u8; 16384]
     [0; 16384]
 }
 
-// Room for what is printed at once.
+// Room for what is printed at once. Where it runs out, the next turn goes on.
 fn output_buffer() -> [u8; 32768]
     ensures { λ r. ⌜ 32768 ≡ length r ⌝ }
 {
