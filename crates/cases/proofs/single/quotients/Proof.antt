@@ -17,8 +17,8 @@ slice-aggregate-lent c = sym (length-take-le _ _ (c .before .at-most-70 .ensures
 quotients-requires : tie.Need-quotients-requires
 quotients-requires c κs = search needs
 
-show-decimal-requires : tie.Need-show-decimal-requires
-show-decimal-requires c κs = search needs
+show-number-requires : tie.Need-show-number-requires
+show-number-requires c κs = search needs
 
 show-list-requires : tie.Need-show-list-requires
 show-list-requires c κs = search needs
@@ -34,6 +34,6 @@ quotients-spec =
     array-borrow-prefix-list
     slice-aggregate-lent
     quotients-requires
-    show-decimal-requires
+    show-number-requires
     show-list-requires
     returns)
