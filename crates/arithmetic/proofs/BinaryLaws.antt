@@ -13,7 +13,7 @@ use Rattle.slash.specs.Answers.{Outcome, stop, done, _then_, orZero, WhenDone}
 use Rattle.slash.specs.Formats.{known}
 use Rattle.slash.specs.Signed.{signedOf}
 use Rattle.slash.specs.Words.{numberOf, numberIn, checkWord, readWord, isOverZero, writeNumber, BestWord, isNan}
-use Rattle.slash.proofs.AnswerLaws.{no-stop, some-not, when-checked}
+use Rattle.slash.proofs.AnswerLaws.{no-stop, some-not, if-case, when-checked}
 use Rattle.slash.proofs.WordLaws.{checked-known, checked-number}
 use Rattle.slash.proofs.WriteLaws.{write-done, word-best}
 use Rattle.slash.specs.Canonical.{CanonicalWord}
@@ -190,8 +190,7 @@ module _ (code : ℕ) (v w : Value) (b : Bool) (be : b ≡ (isNan v || isNan w))
 
 -- neither of two values is over 0, so what is picked isn't
 over-either : (c : Bool) (v w : Value) → isOverZero v ≡ false → isOverZero w ≡ false → isOverZero (if c then v else w) ≡ false
-over-either true v w a b = a
-over-either false v w a b = b
+over-either c v w a b = if-case (λ u. isOverZero u ≡ false) c v w (λ _. a) (λ _. b)
 
 over-sum : (x y : Operand) → Small x → Small y → isOverZero (sumOf x y) ≡ false
 unfolding sumOf sumParts isOverZero Small

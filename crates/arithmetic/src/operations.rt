@@ -1,6 +1,5 @@
 // The four binary operations.
 ghost use mathlib.Core.Path.{_≡_};
-ghost use mathlib.Core.Bool.{true};
 ghost use Prim.Native.Nat.{_<_, _^_};
 ghost use Rattle.slash.specs.Answers.{outcome, checkOutcome, done, orZero, WhenDone};
 ghost use Rattle.slash.specs.Formats.{formatOf};

@@ -5,7 +5,7 @@ use mathlib.Core.Logic.{⊎-elim}
 use Prim.Native.Nat.{ℕ, zero, suc, _+_, _*_, _%_, _^_, _≤_, _<_}
 use native.Mathlib.Omega.{arith}
 use native.Mathlib.Nat.{mul-le-mul-left, mul-le-mul-right}
-use native.Mathlib.Decide.{decLe, ℕ-discrete}
+use native.Mathlib.Decide.{decLe}
 use lib.Dec.{eqb, ltb}
 use borrow.Author.Tests.{eqb-true, eqb-false, leb-false, ltb-false, eq-eqb, ne-eqb}
 use Rattle.convergents.specs.Pairs.{Pair, pair}
@@ -20,7 +20,7 @@ use Rattle.slash.specs.declared.answer.Answer.{Answer}
 use Rattle.slash.specs.declared.answer.Answer.the-variants as Answer
 use Rattle.slash.specs.declared.answer.Stop.{Stop}
 use Rattle.slash.specs.declared.format.Format.{Format}
-use Rattle.slash.proofs.AnswerLaws.{done-inj, no-stop, some-not}
+use Rattle.slash.proofs.AnswerLaws.{done-inj, no-stop, some-not, if-case}
 use Rattle.slash.proofs.WordLaws.{read-checked, checked-below}
 use Rattle.slash.proofs.FormatLaws.{format-limit, fixed-holds}
 use Rattle.slash.proofs.WriteLaws.{write-done, word-best}
@@ -96,10 +96,6 @@ module _ (N D : ℕ) (pos : 1 ≤ D) where
   unfolding ratioWord BestWord
   ratio-best = word-best format known-format false (exactRatio N D .value) not-over
 
-  best-word : BestRatio N D (Word (ratioWord N D))
-  unfolding BestRatio
-  best-word = ratio-best
-
   -- what `slash::round_word` answers
   module _ (f : Format) (fe : f ≡ format) (a : Answer)
       (w : (outcome a ≡ writeNumber f (exactRatio N D)) × WhenDone (outcome a) (λ v. BestFor f N D v)) where
@@ -173,22 +169,12 @@ module _ (b : Breath) where
 
   -- Demand 3, of every breath.
   pub breath-best : BestRatio (b .inspiration) (b .whole) (breathRatio b)
-  breath-best = go (isVoid b) refl
-    where
-      go : (t : Bool) → isVoid b ≡ t → BestRatio (b .inspiration) (b .whole) (breathRatio b)
-      go true h = let w = breath-void h in subst (BestRatio (b .inspiration) (b .whole)) (w .0) (w .1)
-      go false h =
-          let best = best-word (b .inspiration) (b .whole) (good-breath h .0) in
-          subst (BestRatio (b .inspiration) (b .whole)) (breath-word h _ (refl, best) .0) best
+  unfolding breathRatio BestRatio
+  breath-best = if-case (BestRatio (b .inspiration) (b .whole)) (isVoid b) _ _ (λ h. tt) (λ h. ratio-best _ _ (good-breath h .0))
 
   pub breath-shown : ShownRatio (breathRatio b)
-  breath-shown = go (isVoid b) refl
-    where
-      go : (t : Bool) → isVoid b ≡ t → ShownRatio (breathRatio b)
-      go true h = subst ShownRatio (breath-void h .0) tt
-      go false h =
-          let g = good-breath h in
-          subst ShownRatio (breath-word h _ (refl, best-word _ _ (g .0)) .0) (ratio-shown (b .inspiration) (b .whole) (g .0) (g .1))
+  unfolding breathRatio
+  breath-shown = if-case ShownRatio (isVoid b) _ _ (λ h. tt) (λ h. ratio-shown _ _ (good-breath h .0) (good-breath h .1))
 
 -- ---- a night
 
@@ -203,24 +189,19 @@ module _ (s : Sums) where
   unfolding nightRatio noneLeft
   night-word h r w = (w .0 ∙ rw (ne-eqb _ _ h) refl, w .1)
 
+  -- a breath is left
+  some-left : noneLeft s ≡ false → 1 ≤ s .whole
+  unfolding noneLeft
+  some-left h = let n : s .whole ≡ 0 → ⊥ = eqb-false _ _ h in omega arith
+
   -- Demand 3, of every night.
   pub night-best : BestRatio (s .inspiration) (s .whole) (nightRatio s)
-  night-best = go (ℕ-discrete (s .whole) 0)
-    where
-      go : Dec (s .whole ≡ 0) → BestRatio (s .inspiration) (s .whole) (nightRatio s)
-      go (yes h) = let w = night-void h in subst (BestRatio (s .inspiration) (s .whole)) (w .0) (w .1)
-      go (no h) =
-          let best = best-word (s .inspiration) (s .whole) (omega arith) in
-          subst (BestRatio (s .inspiration) (s .whole)) (night-word h _ (refl, best) .0) best
+  unfolding nightRatio BestRatio
+  night-best = if-case (BestRatio (s .inspiration) (s .whole)) (noneLeft s) _ _ (λ h. tt) (λ h. ratio-best _ _ (some-left h))
 
   pub night-shown : Proper s → ShownRatio (nightRatio s)
-  night-shown p = go (ℕ-discrete (s .whole) 0)
-    where
-      go : Dec (s .whole ≡ 0) → ShownRatio (nightRatio s)
-      go (yes h) = subst ShownRatio (night-void h .0) tt
-      go (no h) =
-          let pos : 1 ≤ s .whole = omega arith in
-          subst ShownRatio (night-word h _ (refl, best-word _ _ pos) .0) (ratio-shown (s .inspiration) (s .whole) pos p)
+  unfolding nightRatio
+  night-shown p = if-case ShownRatio (noneLeft s) _ _ (λ h. tt) (λ h. ratio-shown _ _ (some-left h) p)
 
   pub sum-void : (b : Breath) → isVoid b ≡ true → s ≡ withBreath s b
   unfolding withBreath

@@ -1,7 +1,7 @@
 // What a call returns, and what goes behind a pointer.
 ghost use mathlib.Core.Path.{_≡_};
 ghost use Prim.Native.Nat.{_+_, _*_, _%_};
-ghost use Rattle.slash.specs.Answers.{outcome, stop};
+ghost use Rattle.slash.specs.Answers.{outcome};
 ghost use Rattle.vectors.specs.Each.{storedOutcome};
 ghost use Rattle.ffi.specs.Status.{status, behind};
 use slash::Answer;

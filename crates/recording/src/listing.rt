@@ -1,5 +1,4 @@
 // The lines of a listing, each stored into a lent list.
-ghost use mathlib.Core.Path.{_≡_};
 ghost use Prim.Native.Nat.{_<_};
 ghost use Rattle.recording.specs.Listing.{breathLine, allLine, refusedLine, endLine};
 ghost use Rattle.recording.specs.Stores.{Room, Stored, Final};

@@ -5,6 +5,7 @@ use Prim.Native.Nat.{ℕ, _≤_}
 use native.Mathlib.Omega.{arith}
 use lib.Dec.{eqb}
 use borrow.Author.Tests.{ne-eqb}
+use Rattle.convergents.specs.Choice.{if_then_else_}
 use Rattle.slash.specs.Answers.{Outcome, stop, done, _then_, orZero, WhenDone, checkOutcome}
 use Rattle.slash.specs.declared.answer.Stop.{Stop}
 use Rattle.slash.specs.declared.reading.Checked.{Checked}
@@ -70,6 +71,11 @@ and-parts false b h = absurd (false≢true h)
 
 pub some-not : (m : ℕ) → 1 ≤ m → eqb m 0 ≡ false
 some-not m h = let z : m ≡ 0 → ⊥ = λ e. omega arith in ne-eqb _ _ z
+
+-- what holds of either choice holds of the one that a test makes
+pub if-case : {A : Type 0} (P : A → Type 0) (c : Bool) (x y : A) → (c ≡ true → P x) → (c ≡ false → P y) → P (if c then x else y)
+if-case P true x y f g = f refl
+if-case P false x y f g = g refl
 
 -- what a function F comes to at a value that the code knows by its case
 pub at-one : {A B : Type 0} (F : A → B) {x u : A} {r : B} → x ≡ u → r ≡ F u → r ≡ F x

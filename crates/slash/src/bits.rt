@@ -1,6 +1,6 @@
 // The bits of a number: powers of two, fields, how many bits a number takes.
 ghost use mathlib.Core.Path.{_≡_};
-ghost use Prim.Native.Nat.{_+_, _≤_, _<_, _^_};
+ghost use Prim.Native.Nat.{_+_, _<_, _^_};
 ghost use Rattle.slash.specs.Bits.{bitCount, bits, bit, bitOf, fields};
 
 pub(crate) fn power(k: u64) -> u64

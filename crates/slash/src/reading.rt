@@ -1,6 +1,6 @@
 // Reading a word: whether it is refused, and what it says.
 ghost use mathlib.Core.Path.{_≡_};
-ghost use Prim.Native.Nat.{_≤_, _<_};
+ghost use Prim.Native.Nat.{_<_};
 ghost use Rattle.slash.specs.Answers.{checkOutcome, readingOutcome};
 ghost use Rattle.slash.specs.Words.{isAbove, checkWord, numberIn, readWord};
 use crate::answer::Stop;

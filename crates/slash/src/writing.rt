@@ -1,7 +1,6 @@
 // Writing a number: its canonical word in a format.
 ghost use mathlib.Core.Path.{_≡_};
 ghost use mathlib.Core.Bool.{true, false};
-ghost use Prim.Native.Nat.{_≤_};
 ghost use Rattle.convergents.specs.Pairs.{pair};
 ghost use Rattle.convergents.specs.Rounding.{held};
 ghost use Rattle.slash.specs.Answers.{outcome, WhenDone};

@@ -5,7 +5,6 @@ ghost use Prim.Native.Nat.{_≤_, _<_, _^_};
 ghost use lib.IntN.{natAbs};
 ghost use Rattle.slash.specs.Answers.{outcome, checkOutcome, done, orZero, WhenDone};
 ghost use Rattle.slash.specs.Bits.{bit};
-ghost use Rattle.slash.specs.Canonical.{HeldValue};
 ghost use Rattle.slash.specs.Formats.{known, formatOf};
 ghost use Rattle.slash.specs.Words.{BestWord, numberOf, checkWord};
 ghost use Rattle.slash.specs.Steps.{SmallParts};
