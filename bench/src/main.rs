@@ -1,7 +1,7 @@
 //! Times the archive beside other ways to the same results, and prints a table: bench FOLDER NIGHT.
 //!
 //! FOLDER has this project's bench/ and NIGHT is the program `night`, or `-` where there is none yet.
-//! The contenders take turns within each round. A time shown is the median over the rounds, and a ratio
+//! The contenders take turns within each round, and each is first in its turn. A time shown is the median over the rounds, and a ratio
 //! is the median of the rounds' ratios, so that what slows a round down slows both its parts.
 
 mod contenders;
@@ -146,6 +146,11 @@ fn ratio(first: &[f64], second: &[f64]) -> f64 {
     median(&ratios)
 }
 
+/// The contenders of a round: whoever is first finds the inputs cold, so that each is first in its turn.
+fn in_turn(count: usize, round: usize) -> impl Iterator<Item = usize> {
+    (0..count).map(move |step| (round + step) % count)
+}
+
 /// The nanoseconds that a call takes, and its result.
 fn timed<T>(call: impl FnOnce() -> T) -> (f64, T) {
     let start = Instant::now();
@@ -165,9 +170,9 @@ fn table_of_calls(rows: &[Row], room: &Path, folder: &Path) -> String {
     for round in 0..ROUNDS {
         for (row, times) in rows.iter().zip(&mut times) {
             let mut sums = Vec::new();
-            for (contender, times) in CONTENDERS.into_iter().zip(times.iter_mut()) {
-                let (spent, sum) = timed(|| contender(row, CALLS));
-                times.push(spent / CALLS as f64);
+            for at in in_turn(CONTENDERS.len(), round) {
+                let (spent, sum) = timed(|| CONTENDERS[at](row, CALLS));
+                times[at].push(spent / CALLS as f64);
                 sums.push(sum);
             }
             assert!(
@@ -262,20 +267,22 @@ fn table_of_nights(recording: &[u8], room: &Path, folder: &Path, night: &str) ->
 fn in_memory(recording: &[u8]) -> String {
     let mut listing = vec![0; slash::raw::LISTING_BYTES];
     let mut times = [Vec::new(), Vec::new()];
-    for _ in 0..ROUNDS {
+    let contenders: [&dyn Fn(&mut [u8]) -> usize; 2] = [
         // SAFETY: the listing has the bytes that the function is lent.
-        let (spent, length) = timed(|| unsafe {
+        &|listing| unsafe {
             let (start, count) = (recording.as_ptr(), recording.len());
             slash::raw::slash_night(start, count, listing.as_mut_ptr()) as usize
-        });
-        let sum = folded(listing[..length].iter().map(|&byte| byte.into()));
-        times[0].push(spent / BREATHS as f64);
-        let (spent, length) = timed(|| hand::night::night(recording, &mut listing));
-        assert_eq!(
-            sum,
-            folded(listing[..length].iter().map(|&byte| byte.into()))
-        );
-        times[1].push(spent / BREATHS as f64);
+        },
+        &|listing| hand::night::night(recording, listing),
+    ];
+    for round in 0..ROUNDS {
+        let mut sums = Vec::new();
+        for at in in_turn(contenders.len(), round) {
+            let (spent, length) = timed(|| contenders[at](&mut listing));
+            times[at].push(spent / BREATHS as f64);
+            sums.push(folded(listing[..length].iter().map(|&byte| byte.into())));
+        }
+        assert_eq!(sums[0], sums[1]);
     }
     let [archive, hand] = &times;
     format!(
@@ -317,9 +324,9 @@ fn whole_processes(input: &Path, script: &Path, night: &str) -> String {
         );
     }
     let mut times = vec![Vec::new(); processes.len()];
-    for _ in 0..PROCESS_ROUNDS {
-        for (process, times) in processes.iter().zip(&mut times) {
-            times.push(timed(|| run(process, input, Stdio::null())).0 / 1e6);
+    for round in 0..PROCESS_ROUNDS {
+        for at in in_turn(processes.len(), round) {
+            times[at].push(timed(|| run(&processes[at], input, Stdio::null())).0 / 1e6);
         }
     }
     let mut table = format!(
@@ -365,7 +372,7 @@ fn head() -> String {
         .expect("date");
     format!(
         "# Speed\n\nWritten by `bench/run` on {}, on {model}. Medians of {ROUNDS} rounds in which the \
-         contenders take turns; a ratio is the median of the rounds' ratios, not the ratio of two medians; inputs are random and the same for each, and the results' checksums \
+         contenders take turns, each first in its turn; a ratio is the median of the rounds' ratios, not the ratio of two medians; inputs are random and the same for each, and the results' checksums \
          were equal. The archive is the proved library. The hand-written Rust is `bench/hand`: the same \
          algorithm, optimised, called through the same C interface. GMP's rationals with the continued fraction cut in C are `bench/gmp.c`; \
          Python's Fraction is `bench/python_contender.py`.\n\n",
