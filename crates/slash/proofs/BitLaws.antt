@@ -1,6 +1,6 @@
 -- Laws of the bits of a number: how many there are, and the fields of a word. Assumes nothing.
 use mathlib.Core.Path.{_≡_, refl, sym, ap, _∙_, subst}
-use mathlib.Core.Bool.{Bool, true, false}
+use mathlib.Core.Bool.{Bool, true, false, _&&_, and-false}
 use Prim.Native.Nat.{ℕ, zero, suc, _+_, _-_, _*_, _/_, _%_, _^_, _≤_, _<_}
 use native.Mathlib.Omega.{arith}
 use native.Mathlib.Decide.{decLe}
@@ -9,9 +9,9 @@ use native.Mathlib.Nat.{add-zero, zero-add, one-mul, mod-eq-of-lt, mod-lt, div-a
 use lib.Dec.{leb, eqb}
 use lib.Arith.{digits-lt, digits-div, digits-mod}
 use lib.Pow.{pow-pos, pow-mono, pow-lt, pow-add, shr-shr}
-use lib.Bits.{bitAnd, and-mask}
+use lib.Bits.{bitAnd, bitOr, and-mask, and-le-l, and-le-r, or-lt, or-add-and}
 use lib.Count.{leadingZeros, leading-length}
-use borrow.Author.Tests.{leb-true, leb-false}
+use borrow.Author.Tests.{leb-true, leb-false, le-leb, lt-leb}
 use Rattle.slash.specs.Bits.{leastFrom, leastPower, bitCount, bits, bit, bitOf, fields}
 use Rattle.slash.proofs.AnswerLaws.{some-not}
 
@@ -31,6 +31,25 @@ pow-before k h =
 below-pow : (m : ℕ) → m < 2 ^ m
 below-pow zero = omega arith
 below-pow (suc m) = omega (arith, below-pow m, pow-suc 2 m)
+
+-- the bits of two numbers together are within k bits just where those of each are
+pub or-most : (k r s : ℕ) → leb (bitOr r s) (2 ^ k - 1) ≡ (leb r (2 ^ k - 1) && leb s (2 ^ k - 1))
+or-most k r s = go (decLe r (2 ^ k - 1)) (decLe s (2 ^ k - 1))
+  where
+    go : Dec (r ≤ 2 ^ k - 1) → Dec (s ≤ 2 ^ k - 1) → leb (bitOr r s) (2 ^ k - 1) ≡ (leb r (2 ^ k - 1) && leb s (2 ^ k - 1))
+    go (yes a) (yes b) =
+        let m : r < 2 ^ k = omega (arith, pow-pos k) in
+        let n : s < 2 ^ k = omega (arith, pow-pos k) in
+        let l : bitOr r s ≤ 2 ^ k - 1 = omega (arith, or-lt k r s m n) in
+        rw (le-leb _ _ l, le-leb _ _ a, le-leb _ _ b) refl
+    go (yes a) (no b) =
+        let n : 2 ^ k - 1 < s = omega arith in
+        let l : 2 ^ k - 1 < bitOr r s = omega (arith, or-add-and r s, and-le-l r s) in
+        rw (lt-leb _ _ l, lt-leb _ _ n, and-false) refl
+    go (no a) b =
+        let m : 2 ^ k - 1 < r = omega arith in
+        let l : 2 ^ k - 1 < bitOr r s = omega (arith, or-add-and r s, and-le-r r s) in
+        rw (lt-leb _ _ l, lt-leb _ _ m) refl
 
 -- ---- the least power
 

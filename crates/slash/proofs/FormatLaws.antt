@@ -1,9 +1,10 @@
 -- Laws of formats: what a known format says of its k, and that each is a limit. Assumes nothing.
-use mathlib.Core.Path.{_≡_, refl, sym, ap₂, _∙_}
+use mathlib.Core.Path.{_≡_, refl, sym, ap, ap₂, _∙_}
 use mathlib.Core.Bool.{Bool, true, false, _&&_, _||_}
 use Prim.Native.Nat.{ℕ, zero, suc, _+_, _-_, _*_, _^_, _≤_, _<_}
 use native.Mathlib.Omega.{arith}
 use native.Mathlib.Decide.{ℕ-discrete}
+use lib.Bits.{bitOr}
 use lib.Dec.{leb}
 use lib.Pow.{pow-pos, pow-mono}
 use borrow.Author.Tests.{leb-true, eqb-true, le-leb, eq-eqb, ne-eqb}
@@ -15,7 +16,7 @@ use Rattle.slash.specs.Bits.{bitCount}
 use Rattle.slash.specs.Formats.{isFixed, isFloating, kFits, known, ofKnown, makeFormat, slashBits, widthOf, holds, largestPart}
 use Rattle.slash.specs.declared.format.Format.{Format}
 use Rattle.slash.proofs.AnswerLaws.{and-parts}
-use Rattle.slash.proofs.BitLaws.{least-power, least-count, bit-count-lt, bit-count-le, bit-count-pos, bit-count-mono}
+use Rattle.slash.proofs.BitLaws.{or-most, least-power, least-count, bit-count-lt, bit-count-le, bit-count-pos, bit-count-mono}
 
 -- ---- answers
 
@@ -129,10 +130,13 @@ module _ (f : Format) where
 -- ---- what a format holds
 
 module _ (f : Format) (r s : ℕ) where
-  -- the answers of `is_held`
-  pub holds-fixed : f .kind ≡ 1 → (p : ℕ) → p ≡ 2 ^ f .k → (leb r (p - 1) && leb s (p - 1)) ≡ holds f r s
+  holds-fixed : f .kind ≡ 1 → (p : ℕ) → p ≡ 2 ^ f .k → (leb r (p - 1) && leb s (p - 1)) ≡ holds f r s
   unfolding holds
   holds-fixed e p h = rw (eq-eqb _ _ e, h) refl
+
+  -- the answers of `is_held`
+  pub holds-or : f .kind ≡ 1 → (p : ℕ) → p ≡ 2 ^ f .k → leb (bitOr r s) (p - 1) ≡ holds f r s
+  holds-or e p h = ap (λ (q : ℕ). leb (bitOr r s) (q - 1)) h ∙ or-most (f .k) r s ∙ holds-fixed e _ refl
 
   pub holds-floating : (f .kind ≡ 1 → ⊥) → (a b : ℕ) → a ≡ bitCount r → b ≡ bitCount s → leb (a + b) (f .k) ≡ holds f r s
   unfolding holds

@@ -31,8 +31,9 @@ fn is_held(f: Format, r: u64, s: u64) -> bool
     ensures { λ t. ⌜ t ≡ holds f r s ⌝ }
 {
     if f.kind == Format::FIXED {
+        // Neither has a bit above the k lowest; one test for both.
         let most = power(f.k) - 1;
-        (r <= most) & (s <= most)
+        (r | s) <= most
     } else {
         bit_count(r) + bit_count(s) <= f.k
     }

@@ -1,5 +1,5 @@
 -- `slash::rounding::is_held` meets its contract. Assumes nothing.
-use Rattle.slash.proofs.FormatLaws.{known-k, holds-fixed, holds-floating}
+use Rattle.slash.proofs.FormatLaws.{known-k, holds-or, holds-floating}
 use Rattle.slash.proofs.BitLaws.{bit-count-le}
 use lib.Pow.{pow-pos}
 use native.Mathlib.Omega.{arith}
@@ -25,7 +25,7 @@ add-result c =
     omega (arith, c .before .bit-count .ensures, c .bit-count2 .ensures, bit-count-le (a .r) 64 (omega arith) (omega arith), bit-count-le (a .s) 64 (omega arith) (omega arith))
 
 returns : tie.Need-returns
-returns c = holds-fixed _ _ _ (c .before .if1 .taken) _ (c .power .ensures)
+returns c = holds-or _ _ _ (c .before .if1 .taken) _ (c .power .ensures)
 
 returns-2 : tie.Need-returns-2
 returns-2 c =
