@@ -269,16 +269,6 @@ module _ (f : Format) (code left right : ℕ) where
   unfolding binaryWord
   binary-checked = refl
 
-  pub binary-good : done tt ≡ binaryStops f code left right → Good
-  unfolding binaryStops
-  binary-good e = go (known f) (isBinary code) (checkWord f left) refl e
-    where
-      go : (k b : Bool) (o : Outcome (Unit {0})) → checkWord f left ≡ o → done tt ≡ (if k then if not b then stop 2 0 else (o then λ _. checkWord f right) else stop 1 0) → Good
-      go false b o i h = absurd (no-stop (sym h))
-      go true false o i h = absurd (no-stop (sym h))
-      go true true (stop n p) i h = absurd (no-stop (sym h))
-      go true true (done u) i h = (i, sym h)
-
   pub check-format : known f ≡ false → stop 1 0 ≡ binaryStops f code left right
   unfolding binaryStops
   check-format h = rw h refl
@@ -291,6 +281,16 @@ module _ (f : Format) (code left right : ℕ) where
     pub check-words : isBinary code ≡ true → (checkWord f left then λ _. checkWord f right) ≡ binaryStops f code left right
     unfolding binaryStops
     check-words i = rw (h, i) refl
+
+  pub binary-good : done tt ≡ binaryStops f code left right → Good
+  unfolding binaryStops
+  binary-good e = go (known f) (isBinary code) (checkWord f left) refl e
+    where
+      go : (k b : Bool) (o : Outcome (Unit {0})) → checkWord f left ≡ o → done tt ≡ (if k then if not b then stop 2 0 else (o then λ _. checkWord f right) else stop 1 0) → Good
+      go false b o i h = absurd (no-stop (sym h))
+      go true false o i h = absurd (no-stop (sym h))
+      go true true (stop n p) i h = absurd (no-stop (sym h))
+      go true true (done u) i h = (i, sym h)
 
   abbrev pub BestHere : ℕ → Type 0
   BestHere w = BestWord f (exactValue code (X .value) (Y .value)) w
