@@ -1,10 +1,12 @@
-/* Stores the ratio of one breath as a slash word and reads it back: 277 ticks in of 642. */
+/* Stores the ratio of one breath as a slash word and reads it back: 277 ticks in of 642. Then lists a
+ * night of three breaths, and asks for one that is refused. */
 
 #include "slash.h"
 
 #include <inttypes.h>
 #include <stdio.h>
 #include <stdlib.h>
+#include <string.h>
 
 /* Leaves if a call was refused. */
 static void check(const char *call, uint64_t returned) {
@@ -30,6 +32,20 @@ static void print_fixed(const char *name, uint64_t k, uint64_t word) {
     const char *mark = (word >> k & 1) != 0 ? "approximate" : "exact";
     printf("%s: word %08" PRIx64 ", %" PRIu64 "/%" PRIu64 ", %s\n", name, word, numerator,
            denominator, mark);
+}
+
+/* Prints the listing of a recording, or why it has none. */
+static void print_night(const char *recording) {
+    static uint8_t listing[SLASH_LISTING_BYTES];
+    uint64_t length = 0;
+    uint64_t returned =
+        slash_night((const uint8_t *)recording, strlen(recording), listing, &length);
+    if (returned == 0) {
+        fwrite(listing, 1, length, stdout);
+    } else {
+        printf("a night: stop %" PRIu64 " at line %" PRIu64 ", nothing is listed\n",
+               SLASH_STOP_NUMBER(returned), SLASH_STOP_PLACE(returned));
+    }
 }
 
 int main(void) {
@@ -64,5 +80,9 @@ int main(void) {
     uint64_t returned = slash_round(SLASH_FIXED, 15, 277, 0, &untouched);
     printf("277/0: stop %" PRIu64 ", the word is still %08" PRIx64 "\n",
            SLASH_STOP_NUMBER(returned), untouched);
+
+    /* A night, and one whose second line lacks a field. */
+    print_night("0\t277\t642\n4294967290\t10\t34\n100\t100\t100\n");
+    print_night("0\t277\t642\n642\t900\n");
     return order == SLASH_EQUAL ? EXIT_SUCCESS : EXIT_FAILURE;
 }

@@ -12,11 +12,12 @@
  *
  * What a call returns
  *
- *   Each function but slash_night returns 0 where nothing stopped. Otherwise it returns the place
- *   times 256 plus the stop's number (SLASH_STOP_NUMBER, SLASH_STOP_PLACE), and changes nothing
- *   behind any pointer. The place is an index from 0 in the vector functions' stops 4 and 5, else 0.
- *   Where several stops would apply, the checks run in the order of the numbers; of words, the
- *   lowest place comes first, then the left operand, and within one word 4 before 5.
+ *   Each function returns 0 where nothing stopped. Otherwise it returns the place times 256 plus the
+ *   stop's number (SLASH_STOP_NUMBER, SLASH_STOP_PLACE), and changes nothing behind any pointer. The
+ *   place is an index from 0 in the vector functions' stops 4 and 5, a line from 1 in slash_night's,
+ *   else 0. Where several stops would apply, the checks run in the order of the numbers; of words, the
+ *   lowest place comes first, then the left operand, and within one word 4 before 5; of a recording,
+ *   the first bad line.
  *
  * What the caller owes
  *
@@ -68,12 +69,17 @@ extern "C" {
 #define SLASH_UNDEFINED_SLASH_POSITION 5 /* floating word whose e lies between k - 1 and 2^L - 2 */
 #define SLASH_DENOMINATOR_ZERO 6         /* denominator 0 given to rounding */
 #define SLASH_LIST_TOO_SHORT 7           /* quotient list shorter than the quotients */
+#define SLASH_TOO_MANY_LINES 8           /* line 65,537 begins */
+#define SLASH_BAD_LINE_END 9             /* over 32 bytes before the line feed, or no line feed */
+#define SLASH_NOT_THREE_FIELDS 10        /* line with other than two tabs */
+#define SLASH_BAD_TICK_MARK 11           /* field that isn't a number as slash_night takes them */
+#define SLASH_NO_LINE 12                 /* recording of no byte; its place is line 1 */
 
 /* A returned number that isn't 0, taken apart. */
 #define SLASH_STOP_NUMBER(returned) ((returned) % 256)
 #define SLASH_STOP_PLACE(returned) ((returned) / 256)
 
-/* The bytes that slash_night is lent: those of the longest listing. */
+/* The bytes that slash_night is lent: no listing has more. */
 #define SLASH_LISTING_BYTES 2162719
 
 /* Stores the word, of sign 0, of n/d rounded into the format: the last convergent that it holds,
@@ -126,10 +132,14 @@ uint64_t slash_convert_each(uint64_t kind, uint64_t k, uint64_t to_kind, uint64_
                             const uint64_t *operand, size_t operand_length, uint64_t *out,
                             size_t out_length);
 
-/* Writes the listing of a night's recording, what the program `night` prints for it, at the start of
- * the listing, leaves the rest as it was, and returns the listing's length. A recording that is
- * refused gets its stop, from 8 to 12, in the listing's last line: `refused`, the number, the line. */
-uint64_t slash_night(const uint8_t *recording, size_t recording_length, uint8_t *listing);
+/* Stores the listing of a night's recording, what the program `night` prints for it, at the start of
+ * the lent listing, leaves the rest as it was, and stores the listing's length. The recording has a
+ * breath a line: onset, peak and next onset, decimal numbers from 0 to 4294967295 without leading
+ * zeros, parted by one tab, each line ended by one line feed. Stops 8, 9, 10, 11, 12, with the line as
+ * place. It is read through before anything is stored, so that a stop leaves the listing and the length
+ * as they were; the lines before that line are good, and can be listed by a call of their own. */
+uint64_t slash_night(const uint8_t *recording, size_t recording_length, uint8_t *listing,
+                     uint64_t *length);
 
 #ifdef __cplusplus
 }

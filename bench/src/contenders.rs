@@ -142,6 +142,22 @@ extern "C" {
     fn gmp_quotients(kind: u64, k: u64, operand: u64, list: *mut u32) -> u64;
 }
 
+/// A function that lists a recording through the C interface.
+pub type Night = unsafe extern "C" fn(*const u8, usize, *mut u8, *mut u64) -> u64;
+
+/// The archive's, then the hand-written one.
+pub const NIGHTS: [Night; 2] = [slash::raw::slash_night, hand_calls::slash_night];
+
+/// What the function returns for a recording, and the length that it stores, 0 where it stores none.
+pub fn listed(night: Night, recording: &[u8], listing: &mut [u8]) -> (u64, usize) {
+    assert!(listing.len() >= slash::raw::LISTING_BYTES);
+    let mut length = 0;
+    let (start, count) = (recording.as_ptr(), recording.len());
+    // SAFETY: the pointers are those of live bytes, with their lengths, and of a live number.
+    let status = unsafe { night(start, count, listing.as_mut_ptr(), &mut length) };
+    (status, length as usize)
+}
+
 /// Makes GMP's numbers, once.
 pub fn start_gmp() {
     // SAFETY: called once, from one thread.

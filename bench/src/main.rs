@@ -7,7 +7,7 @@
 mod contenders;
 mod inputs;
 
-use contenders::{folded, Operation, Row};
+use contenders::{folded, listed, Operation, Row, NIGHTS};
 use inputs::Source;
 use std::fmt::Write as _;
 use std::fs::{self, File};
@@ -28,6 +28,9 @@ const PYTHON_CALLS: usize = 1_000;
 const PROCESS_ROUNDS: usize = 31;
 
 const BREATHS: usize = 65_536;
+
+/// What a byte holds that is lent for a listing where two listings are compared.
+const LENT_BYTE: u8 = 0xa5;
 
 fn main() {
     let arguments: Vec<String> = std::env::args().skip(1).collect();
@@ -254,49 +257,56 @@ fn python_times(script: &Path, rows: &Path) -> Vec<(f64, u64)> {
 fn table_of_nights(recording: &[u8], room: &Path, folder: &Path, night: &str) -> String {
     let input = room.join("recording");
     fs::write(&input, recording).expect("the recording");
+    // Without its last line feed it is refused behind all other lines.
+    let refused = room.join("refused");
+    fs::write(&refused, &recording[..recording.len() - 1]).expect("the refused recording");
     let mut table = format!(
         "## A night\n\nA recording of {BREATHS} breaths like a sleeper's, {} bytes.\n\n",
         recording.len()
     );
     table += &in_memory(recording);
-    table += &whole_processes(&input, &folder.join("night.py"), night);
+    table += &whole_processes(&input, &refused, &folder.join("night.py"), night);
     table
 }
 
 /// The library's function beside the hand-written one.
 fn in_memory(recording: &[u8]) -> String {
+    for bytes in [0, 1, recording.len() / 2, recording.len()] {
+        assert_listed_alike(&recording[..bytes]);
+    }
     let mut listing = vec![0; slash::raw::LISTING_BYTES];
     let mut times = [Vec::new(), Vec::new()];
-    let contenders: [&dyn Fn(&mut [u8]) -> usize; 2] = [
-        // SAFETY: the listing has the bytes that the function is lent.
-        &|listing| unsafe {
-            let (start, count) = (recording.as_ptr(), recording.len());
-            slash::raw::slash_night(start, count, listing.as_mut_ptr()) as usize
-        },
-        &|listing| hand::night::night(recording, listing),
-    ];
     for round in 0..ROUNDS {
-        let mut sums = Vec::new();
-        for at in in_turn(contenders.len(), round) {
-            let (spent, length) = timed(|| contenders[at](&mut listing));
+        for at in in_turn(NIGHTS.len(), round) {
+            let (spent, (status, _)) = timed(|| listed(NIGHTS[at], recording, &mut listing));
+            assert_eq!(status, 0);
             times[at].push(spent / BREATHS as f64);
-            sums.push(folded(listing[..length].iter().map(|&byte| byte.into())));
         }
-        assert_eq!(sums[0], sums[1]);
     }
     let [archive, hand] = &times;
     format!(
         "In memory: the archive's `slash_night` takes {:.1} ns a breath, hand-written Rust {:.2} times \
-         as long.\n\n",
+         as long. Both read the recording through before they store anything, as a refused one must \
+         leave the lent memory as it was.\n\n",
         median(archive),
         ratio(archive, hand)
     )
 }
 
+/// Holds the two functions to each other: what they return, and all the bytes that they are lent.
+fn assert_listed_alike(recording: &[u8]) {
+    let answers = NIGHTS.map(|night| {
+        let mut listing = vec![LENT_BYTE; slash::raw::LISTING_BYTES];
+        let (status, length) = listed(night, recording, &mut listing);
+        (status, length, folded(listing.into_iter().map(u64::from)))
+    });
+    assert_eq!(answers[0], answers[1]);
+}
+
 /// A contender as a process: its name, its program and its arguments.
 type Process<'a> = (&'a str, PathBuf, Vec<PathBuf>);
 
-fn whole_processes(input: &Path, script: &Path, night: &str) -> String {
+fn whole_processes(input: &Path, refused: &Path, script: &Path, night: &str) -> String {
     let hand = std::env::current_exe()
         .expect("this program")
         .with_file_name("hand-night");
@@ -312,17 +322,9 @@ fn whole_processes(input: &Path, script: &Path, night: &str) -> String {
     if night != "-" {
         processes.insert(0, ("`night`", night.into(), Vec::new()));
     }
-    let expected = run(&processes[0], input, Stdio::piped());
-    for process in processes
-        .iter()
-        .filter(|process| process.1 != Path::new("cat"))
-    {
-        assert!(
-            run(process, input, Stdio::piped()) == expected,
-            "{} lists otherwise",
-            process.0
-        );
-    }
+    let (_cat, listers) = processes.split_last().expect("`cat`");
+    assert_printed_alike(listers, input);
+    assert_printed_alike(listers, refused);
     let mut times = vec![Vec::new(); processes.len()];
     for round in 0..PROCESS_ROUNDS {
         for at in in_turn(processes.len(), round) {
@@ -345,6 +347,14 @@ fn whole_processes(input: &Path, script: &Path, night: &str) -> String {
         .expect("a row");
     }
     table
+}
+
+fn assert_printed_alike(processes: &[Process], input: &Path) {
+    let expected = run(&processes[0], input, Stdio::piped());
+    for process in processes {
+        let printed = run(process, input, Stdio::piped());
+        assert!(printed == expected, "{} lists otherwise", process.0);
+    }
 }
 
 fn run((name, program, arguments): &Process, input: &Path, output: Stdio) -> Vec<u8> {

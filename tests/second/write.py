@@ -5,6 +5,7 @@ import sys
 
 import answers
 import cases_binary
+import cases_files
 import cases_night
 import cases_unary
 import cases_vectors
@@ -26,6 +27,8 @@ def outputs():
     yield "night", "stdout", [night.listing(longest)]
     yield "night_cases", "stdin", as_lines(cases_night.recipes())
     yield "night_cases", "stdout", cases_night.answers()
+    for name, parts in cases_files.outputs():
+        yield "night_files", name, parts
 
 
 def as_lines(texts):

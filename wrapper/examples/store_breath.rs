@@ -1,4 +1,5 @@
-//! Stores the ratio of one breath as a slash word and reads it back: 277 ticks in of 642.
+//! Stores the ratio of one breath as a slash word and reads it back: 277 ticks in of 642. Then lists a
+//! night of three breaths, and asks for one that is refused.
 
 use slash::{Format, Stop};
 use std::cmp::Ordering;
@@ -9,6 +10,16 @@ fn print_fixed(name: &str, k: u64, word: u64) {
     let (numerator, denominator) = (word >> (k + 1) & part, word & part);
     let mark = ["exact", "approximate"][(word >> k & 1) as usize];
     println!("{name}: word {word:08x}, {numerator}/{denominator}, {mark}");
+}
+
+/// Prints the listing of a recording, or why it has none.
+fn print_night(recording: &str) {
+    match slash::night(recording.as_bytes()) {
+        Ok(listing) => print!("{}", String::from_utf8_lossy(&listing)),
+        Err(Stop { number, place }) => {
+            println!("a night: stop {number} at line {place}, nothing is listed")
+        }
+    }
 }
 
 fn main() -> Result<(), Stop> {
@@ -43,5 +54,9 @@ fn main() -> Result<(), Stop> {
         "277/0: stop {}, the word is still {breath:08x}",
         stop.number
     );
+
+    // A night, and one whose second line lacks a field.
+    print_night("0\t277\t642\n4294967290\t10\t34\n100\t100\t100\n");
+    print_night("0\t277\t642\n642\t900\n");
     Ok(())
 }

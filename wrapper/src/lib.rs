@@ -1,7 +1,7 @@
 //! Slash arithmetic for breath ratios: safe functions over the proved archive.
 //!
 //! A word is a `u64` that a [`Format`] tells how to read. A refused call returns a [`Stop`] and changes
-//! nothing that was lent to it. A refused recording has its listing, which ends in the stop.
+//! nothing that was lent to it.
 
 use std::cmp::Ordering;
 use std::fmt;
@@ -27,7 +27,8 @@ impl Format {
     }
 }
 
-/// A refused call: the stop's number, from 1 to 7, and the index in a vector, else 0.
+/// A refused call: the stop's number, from 1 to 12, and its place: the index in a vector, the line of a
+/// recording, else 0.
 #[derive(Clone, Copy, Debug, PartialEq, Eq)]
 pub struct Stop {
     pub number: u8,
@@ -56,6 +57,11 @@ impl fmt::Display for Stop {
             5 => "undefined slash position",
             6 => "denominator 0 given to rounding",
             7 => "quotient list shorter than the quotients",
+            8 => "line 65,537 begins",
+            9 => "over 32 bytes before the line feed, or no line feed",
+            10 => "not three fields",
+            11 => "a field is not a tick mark",
+            12 => "no line at all",
             _ => "unknown stop",
         };
         write!(f, "stop {} at {}: {meaning}", self.number, self.place)
@@ -209,13 +215,14 @@ pub fn convert_each(
     })
 }
 
-/// The listing of a night's recording, as the program `night` prints it.
+/// The listing of a night's recording, as the program `night` prints it; stops 8 to 12 with the line.
 ///
-/// A refused recording's listing ends in its `refused` line, with a stop from 8 to 12.
-pub fn night(recording: &[u8]) -> Vec<u8> {
+/// The line is the first bad one, from 1. Those before it are good: they have a listing of their own.
+pub fn night(recording: &[u8]) -> Result<Vec<u8>, Stop> {
     let mut listing = vec![0; raw::LISTING_BYTES];
+    let (start, count) = (recording.as_ptr(), recording.len());
     let length =
-        unsafe { raw::slash_night(recording.as_ptr(), recording.len(), listing.as_mut_ptr()) };
+        stored(|length| unsafe { raw::slash_night(start, count, listing.as_mut_ptr(), length) })?;
     listing.truncate(length as usize);
-    listing
+    Ok(listing)
 }

@@ -1,7 +1,6 @@
 //! The archive's functions as `include/slash.h` declares them; what each answers is told there.
 //!
-//! Each returns 0, or where it stopped the place times 256 plus the stop's number, but `slash_night`,
-//! which returns the length of the listing.
+//! Each returns 0, or where it stopped the place times 256 plus the stop's number.
 //!
 //! # Safety
 //!
@@ -9,7 +8,7 @@
 //! length says (`listing` to `LISTING_BYTES` bytes, any other pointer without a length to one number).
 //! What is written through one pointer is reached through no other during the call.
 
-/// The bytes that are lent for a listing: those of the longest one.
+/// The bytes that are lent for a listing: none has more.
 pub const LISTING_BYTES: usize = 2_162_719;
 
 extern "C" {
@@ -65,5 +64,10 @@ extern "C" {
         out: *mut u64,
         out_length: usize,
     ) -> u64;
-    pub fn slash_night(recording: *const u8, recording_length: usize, listing: *mut u8) -> u64;
+    pub fn slash_night(
+        recording: *const u8,
+        recording_length: usize,
+        listing: *mut u8,
+        length: *mut u64,
+    ) -> u64;
 }

@@ -1,6 +1,6 @@
 //! The papers' edges, through the safe functions.
 
-use slash::{Binary, Format, Stop, Unary};
+use slash::{raw, Binary, Format, Stop, Unary};
 use std::cmp::Ordering;
 
 const FIXED_3: Format = Format::fixed(3);
@@ -126,6 +126,58 @@ fn a_night_is_listed_as_the_paper_prints_it() {
     let listing = slash::night(b"0\t277\t642\n4294967290\t10\t34\n100\t100\t100\n");
     let expected = "1\t01150282\t277/642\t43.1\n2\t00020005\t2/5\t40.0\n3\t00000000\t-\t-\n\
                     all\t012502aa\t293/682\t43.0\n";
-    assert_eq!(String::from_utf8(listing).as_deref(), Ok(expected));
-    assert_eq!(slash::night(b""), b"refused\t12\t1\n");
+    assert_eq!(listing.as_deref(), Ok(expected.as_bytes()));
+}
+
+const GOOD: &[u8] = b"0\t277\t642\n";
+
+/// What the archive returns for a recording, with the length and the bytes that it was lent.
+fn lent_to_night(recording: &[u8]) -> (u64, u64, Vec<u8>) {
+    let (mut length, mut listing) = (LENT_LENGTH, vec![LENT_BYTE; raw::LISTING_BYTES]);
+    let (start, count) = (recording.as_ptr(), recording.len());
+    // SAFETY: the pointers come from live Rust values, with their lengths.
+    let returned = unsafe { raw::slash_night(start, count, listing.as_mut_ptr(), &mut length) };
+    (returned, length, listing)
+}
+
+const LENT_LENGTH: u64 = 7;
+const LENT_BYTE: u8 = 0xa5;
+
+#[test]
+fn a_refused_recording_stops_at_its_line_and_leaves_what_is_lent() {
+    let refused = |number: u8, place: u64, lines: &[&[u8]]| {
+        let recording = lines.concat();
+        assert_eq!(slash::night(&recording), Err(Stop { number, place }));
+        let (returned, length, listing) = lent_to_night(&recording);
+        assert_eq!(returned, place * 256 + u64::from(number));
+        assert_eq!(length, LENT_LENGTH);
+        assert!(listing.iter().all(|&byte| byte == LENT_BYTE));
+    };
+    refused(8, 65_537, &[&GOOD.repeat(65_536), b"0"]);
+    refused(
+        9,
+        2,
+        &[GOOD, b"4294967295\t4294967295\t42949672950\n", GOOD],
+    );
+    refused(9, 3, &[GOOD, GOOD, b"0\t277\t642"]);
+    refused(10, 1, &[b"0\t277\n", GOOD]);
+    refused(10, 2, &[GOOD, b"\n"]);
+    refused(10, 2, &[GOOD, b"0\t277\t642\t\n"]);
+    refused(11, 2, &[GOOD, b"0\t277\t4294967296\n"]);
+    refused(11, 2, &[GOOD, b"0\t0277\t642\n", b"\n"]);
+    refused(11, 1, &[b"0\t\t642\n"]);
+    refused(12, 1, &[]);
+}
+
+#[test]
+fn a_listing_keeps_what_lies_beyond_it() {
+    let widest = b"4294966653\t4294966930\t4294967295\n";
+    for recording in [GOOD.to_vec(), widest.to_vec(), GOOD.repeat(65_536)] {
+        let expected = slash::night(&recording).expect("a listing");
+        let (returned, length, listing) = lent_to_night(&recording);
+        assert_eq!((returned, length), (0, expected.len() as u64));
+        let (listed, beyond) = listing.split_at(expected.len());
+        assert!(listed == expected);
+        assert!(beyond.iter().all(|&byte| byte == LENT_BYTE));
+    }
 }

@@ -1,14 +1,19 @@
-//! A night's recording, listed by hand-written code in one pass over its bytes.
+//! A night's recording, listed by hand-written code: whole, or piece by piece as its bytes come.
+//!
+//! A bad line stops the call that begins with it, or with the recording, and nothing is stored.
 
-use crate::{cut, form, put, Form};
+use crate::{cut, form, put, Answer, Form};
 
 /// The bytes of the longest listing.
 pub const LISTING_BYTES: usize = 2_162_719;
 
 const MOST_LINES: u32 = 65536;
 
-/// The longest line, with its line feed.
+/// The longest line, with its line feed; no listed line is longer either.
 const MOST_BYTES: usize = 33;
+
+/// The largest tick mark, the longest that is none too large.
+const LARGEST_MARK: &[u8] = b"4294967295";
 
 /// The listing, as far as it is written.
 struct Listing<'a> {
@@ -87,19 +92,31 @@ impl Listing<'_> {
         self.decimal(tenths / 10);
         self.text(&[b'.', digit(tenths % 10), b'\n']);
     }
-
-    fn refused(&mut self, number: u32, line: u32) {
-        self.text(b"refused\t");
-        self.decimal(number);
-        self.byte(b'\t');
-        self.decimal(line);
-        self.byte(b'\n');
-    }
 }
 
 #[inline]
 fn digit(number: u32) -> u8 {
     b'0' + number as u8
+}
+
+/// Lists a recording and gives the listing's length. It is read through before anything is stored.
+#[inline]
+pub fn night(recording: &[u8], listing: &mut [u8]) -> Answer {
+    check(recording)?;
+    Ok(Night::begun().piece(recording, true, listing).length as u64)
+}
+
+/// Reads a recording through, for the stop of its first bad line.
+#[inline]
+fn check(recording: &[u8]) -> Result<(), u64> {
+    let (mut line, mut rest) = (1, recording);
+    loop {
+        match next_line(line, rest, good_line) {
+            Ok(used) => (line, rest) = (line + 1, &rest[used..]),
+            Err(End::Refused { number, line }) => return Err(line * 256 + number),
+            Err(_) => return Ok(()),
+        }
+    }
 }
 
 /// A night that is being listed: the number of its next line, and the sums so far.
@@ -113,7 +130,14 @@ pub struct Night {
 pub struct Piece {
     pub used: usize,
     pub length: usize,
-    pub open: bool,
+    pub end: End,
+}
+
+/// A listing goes on, is whole, or stops at a line.
+pub enum End {
+    Open,
+    Closed,
+    Refused { number: u64, line: u64 },
 }
 
 impl Night {
@@ -125,7 +149,8 @@ impl Night {
         }
     }
 
-    /// Lists the lines at the start of some bytes, while they are sure to be whole and have room.
+    /// Lists the lines at the start of some bytes, while they are sure and have room. A stop behind
+    /// lines that were listed is left to the next call, which stores nothing.
     #[inline]
     pub fn piece(&mut self, recording: &[u8], last: bool, bytes: &mut [u8]) -> Piece {
         let Ok(stored) = form(1, 15) else {
@@ -134,89 +159,116 @@ impl Night {
         let room = bytes.len();
         let mut listing = Listing { bytes, length: 0 };
         let mut rest = recording;
-        let mut open = true;
-        while room - listing.length >= MOST_BYTES && (last || rest.len() >= MOST_BYTES) {
-            match self.next(rest) {
-                Next::Breath(inward, whole, used) => {
+        let mut end = End::Open;
+        while room - listing.length >= MOST_BYTES && (last || is_sure(rest)) {
+            match next_line(self.line, rest, breath) {
+                Ok((inward, whole, used)) => {
                     listing.decimal(self.line);
                     listing.columns(stored, inward, whole);
-                    if inward <= whole {
-                        self.in_sum += inward;
-                        self.whole_sum += whole;
-                    }
+                    self.add(inward, whole);
                     rest = &rest[used..];
-                    self.line += 1;
                     continue;
                 }
-                Next::All => {
+                Err(End::Closed) => {
                     listing.text(b"all");
                     listing.columns(stored, self.in_sum, self.whole_sum);
+                    end = End::Closed;
                 }
-                Next::Refused(number) => listing.refused(number, self.line),
+                Err(refused) if rest.len() == recording.len() => end = refused,
+                Err(_) => {}
             }
-            open = false;
             break;
         }
         Piece {
             used: recording.len() - rest.len(),
             length: listing.length,
-            open,
+            end,
         }
     }
 
-    /// What the next line says, from the bytes not yet read.
     #[inline]
-    fn next(&self, rest: &[u8]) -> Next {
-        if rest.is_empty() {
-            return if self.line == 1 {
-                Next::Refused(12)
-            } else {
-                Next::All
-            };
+    fn add(&mut self, inward: u64, whole: u64) {
+        if inward <= whole {
+            self.in_sum += inward;
+            self.whole_sum += whole;
         }
-        if self.line > MOST_LINES {
-            return Next::Refused(8);
-        }
-        let Some(([onset, peak, next], used)) = marks(rest) else {
-            return Next::Refused(stop(rest));
-        };
-        let inward = u64::from(peak.wrapping_sub(onset));
-        let whole = u64::from(next.wrapping_sub(onset));
-        Next::Breath(inward, whole, used)
+        self.line += 1;
     }
 }
 
-/// A breath's durations and the bytes of its line, or how the listing ends.
-enum Next {
-    Breath(u64, u64, usize),
-    All,
-    Refused(u32),
+/// Whether no byte that follows these changes what their first line says.
+#[inline]
+fn is_sure(rest: &[u8]) -> bool {
+    rest.len() >= MOST_BYTES || rest.contains(&b'\n')
 }
 
-/// Writes the listing of a recording and returns its length.
+/// What is read of the line with this number, or how the recording ends there.
 #[inline]
-pub fn night(recording: &[u8], bytes: &mut [u8]) -> usize {
-    Night::begun().piece(recording, true, bytes).length
+fn next_line<T>(
+    line: u32,
+    rest: &[u8],
+    read: impl Fn(&[u8; MOST_BYTES]) -> Option<T>,
+) -> Result<T, End> {
+    let number = if rest.is_empty() {
+        if line > 1 {
+            return Err(End::Closed);
+        }
+        12
+    } else if line > MOST_LINES {
+        8
+    } else if let Some(found) = in_window(rest, read) {
+        return Ok(found);
+    } else {
+        stop(rest)
+    };
+    let line = u64::from(line);
+    Err(End::Refused { number, line })
 }
 
-/// The three tick marks of the line at the start of some bytes, and the bytes that the line uses.
+/// What is read at the start of some bytes.
 #[inline]
-fn marks(bytes: &[u8]) -> Option<([u32; 3], usize)> {
+fn in_window<T>(bytes: &[u8], read: impl Fn(&[u8; MOST_BYTES]) -> Option<T>) -> Option<T> {
     let Some(line) = bytes.first_chunk() else {
         // The last lines of a recording: no byte behind it ends a mark.
         let mut line = [0; MOST_BYTES];
         line[..bytes.len()].copy_from_slice(bytes);
-        return marks_within(&line);
+        return read(&line);
     };
-    marks_within(line)
+    read(line)
 }
 
+/// The bytes that a good line uses.
 #[inline]
-fn marks_within(line: &[u8; MOST_BYTES]) -> Option<([u32; 3], usize)> {
+fn good_line(line: &[u8; MOST_BYTES]) -> Option<usize> {
+    let peak_at = good_mark(line, 0, b'\t')?;
+    let next_at = good_mark(line, peak_at, b'\t')?;
+    good_mark(line, next_at, b'\n')
+}
+
+/// The place behind the tick mark from a place on and the byte `end` that ends it. The largest marks
+/// have ten digits, whose order as text is that of their numbers.
+#[inline]
+fn good_mark(line: &[u8; MOST_BYTES], from: usize, end: u8) -> Option<usize> {
+    let mut at = from;
+    while at < from + 10 && line[at].is_ascii_digit() {
+        at += 1;
+    }
+    let good = line[at] == end
+        && at > from
+        && (line[from] != b'0' || at == from + 1)
+        && (at < from + 10 || line[from..from + 10] <= *LARGEST_MARK);
+    good.then_some(at + 1)
+}
+
+/// A line's durations, in and whole, and the bytes that it uses.
+#[inline]
+fn breath(line: &[u8; MOST_BYTES]) -> Option<(u64, u64, usize)> {
     let (onset, peak_at) = mark(line, 0, b'\t')?;
     let (peak, next_at) = mark(line, peak_at, b'\t')?;
     let (next, used) = mark(line, next_at, b'\n')?;
-    Some(([onset, peak, next], used))
+    let inward = peak.wrapping_sub(onset);
+    let whole = next.wrapping_sub(onset);
+    Some((inward.into(), whole.into(), used))
 }
 
 /// The tick mark from a place on that the byte `end` ends, and the place behind both. Ten digits fit
@@ -237,7 +289,7 @@ fn mark(line: &[u8; MOST_BYTES], from: usize, end: u8) -> Option<(u32, usize)> {
 
 /// Why a line that isn't three tick marks is refused.
 #[cold]
-fn stop(bytes: &[u8]) -> u32 {
+fn stop(bytes: &[u8]) -> u64 {
     let window = &bytes[..bytes.len().min(MOST_BYTES)];
     let Some(end) = window.iter().position(|&byte| byte == b'\n') else {
         return 9;

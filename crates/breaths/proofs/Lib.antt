@@ -1,2 +1,3 @@
 -- The laws that the functions' proofs cite, and what follows from the definitions.
 pub mod RatioLaws
+pub mod SumLaws

@@ -1,31 +1,33 @@
 -- Ratios: durations, what is void, and that the word of a ratio from 0 to 1 is a fraction from 0 to 1. Assumes nothing.
 use mathlib.Core.Path.{_≡_, refl, sym, ap, _∙_, subst}
-use mathlib.Core.Bool.{Bool, true, false, _&&_, _||_, and-true, and-false, true≢false}
+use mathlib.Core.Bool.{Bool, true, false, _||_, true≢false}
+use mathlib.Core.List.{List, [], _∷_}
 use mathlib.Core.Logic.{⊎-elim}
 use Prim.Native.Nat.{ℕ, zero, suc, _+_, _*_, _%_, _^_, _≤_, _<_}
 use native.Mathlib.Omega.{arith}
-use native.Mathlib.Nat.{mul-le-mul-left, mul-le-mul-right}
+use native.Mathlib.Nat.{mul-le-mul-left, mul-le-mul-right, mod-lt}
 use native.Mathlib.Decide.{decLe}
 use lib.Dec.{eqb, ltb}
-use borrow.Author.Tests.{eqb-true, eqb-false, leb-false, ltb-false, eq-eqb, ne-eqb}
-use Rattle.convergents.specs.Pairs.{Pair, pair}
-use Rattle.convergents.specs.Rounding.{Limit, held}
+use borrow.Author.Tests.{eqb-true, eqb-false, ltb-false, eq-eqb, ne-eqb}
+use Rattle.convergents.specs.Pairs.{Pair, pair, differs}
+use Rattle.convergents.specs.Rounding.{Limit, held, round}
 use Rattle.convergents.specs.Best.{Best}
 use Rattle.convergents.proofs.Optimal.{held-is, zero-held}
+use Rattle.convergents.proofs.Theorem.{round-best}
 use Rattle.slash.specs.Answers.{Outcome, done, outcome, WhenDone}
-use Rattle.slash.specs.Formats.{kFits, known, widthOf, holds}
-use Rattle.slash.specs.Words.{checkWord, isOverZero, isAbove, writeNumber, exactRatio, BestFor, BestWord}
-use Rattle.slash.specs.Canonical.{CanonicalWord}
+use Rattle.slash.specs.Bits.{bits, fields}
+use Rattle.slash.specs.Formats.{kFits, known, holds}
+use Rattle.slash.specs.Words.{fixedValue, fixedNumber, numberOf, fixedWord, pairWord, wordFor, isOverZero, writeNumber, exactRatio, pairOf, BestFor, BestWord}
 use Rattle.slash.specs.declared.answer.Answer.{Answer}
 use Rattle.slash.specs.declared.answer.Answer.the-variants as Answer
 use Rattle.slash.specs.declared.answer.Stop.{Stop}
 use Rattle.slash.specs.declared.format.Format.{Format}
+use Rattle.slash.specs.declared.number.Value.{Value}
 use Rattle.slash.proofs.AnswerLaws.{done-inj, no-stop, some-not, if-case}
-use Rattle.slash.proofs.WordLaws.{read-checked, checked-below}
-use Rattle.slash.proofs.FormatLaws.{format-limit, fixed-holds}
+use Rattle.slash.proofs.BitLaws.{bit-lt, bit-false}
+use Rattle.slash.proofs.FormatLaws.{format-limit, fixed-parts}
 use Rattle.slash.proofs.WriteLaws.{write-done, word-best}
-use Rattle.slash.proofs.Canonical.{written-canonical}
-use Rattle.breaths.specs.Breaths.{span, breathOf, isVoid, format, ratioWord, breathRatio, withBreath, noneLeft, nightRatio, fractionOf, wordOf, BestRatio}
+use Rattle.breaths.specs.Breaths.{span, breathOf, isVoid, format, ratioWord, breathRatio, noneLeft, nightRatio, fractionOf, wordOf, BestRatio, BestBreaths}
 use Rattle.breaths.specs.Shown.{Shown, ShownRatio, Proper}
 use Rattle.breaths.specs.declared.breath.Breath.{Breath}
 use Rattle.breaths.specs.declared.breath.Sums.{Sums}
@@ -111,13 +113,14 @@ module _ (N D : ℕ) (pos : 1 ≤ D) where
     pub rounded-stop : (s : Stop) → a ≡ Answer.Stopped s → ⊥
     rounded-stop s e = no-stop (sym (ap outcome e) ∙ answer)
 
-  -- its 8 hexadecimal digits are all of it
-  pub ratio-word-width : ratioWord N D < 2 ^ 32
-  unfolding isAbove widthOf
-  ratio-word-width =
-      let w : CanonicalWord format (ratioWord N D) = written-canonical format _ (ratioWord N D) (sym ratio-written) in
-      let c : checkWord format (ratioWord N D) ≡ done tt = read-checked format (ratioWord N D) (w .read) in
-      leb-false _ _ (checked-below format (ratioWord N D) c)
+  -- its sign is 0, and 8 hexadecimal digits are all of it
+  pub ratio-unsigned : ratioWord N D < 2 ^ 31
+  unfolding ratioWord wordFor pairWord fixedWord fields
+  ratio-unsigned =
+      let x : Pair = round (holds format) N D in
+      let h : held (holds format) x ≡ true = round-best (holds format) (format-limit format known-format) N D pos .isHeld in
+      let l = fixed-parts format (x .numerator) (x .denominator) known-format h refl in
+      omega (arith, l, bit-lt (differs N D x), bit-false false refl)
 
   pub ratio-shown : N ≤ D → Shown (ratioWord N D)
   unfolding fractionOf BestFor
@@ -125,9 +128,22 @@ module _ (N D : ℕ) (pos : 1 ≤ D) where
       let x : Pair = fractionOf (ratioWord N D) in
       let b : Best (holds format) N D x = ratio-best in
       let p = from-zero-to-one (holds format) (format-limit format known-format) N D pos l x b in
-      let h : holds format (x .numerator) (x .denominator) ≡ true = sym (held-is (holds format) (x .numerator) (x .denominator) (p .0)) ∙ b .isHeld in
-      let s = fixed-holds format (x .numerator) (x .denominator) refl h .1 in
-      record { some = p .0; proper = p .1; small = omega arith }
+      record { unsigned = ratio-unsigned; some = p .0; proper = p .1 }
+
+-- the parts of whatever word are small
+value-small : (s : Bool) (n d : ℕ) → n < 2 ^ 15 → d < 2 ^ 15 → (pairOf (fixedValue s n d) .numerator < 2 ^ 15) × (pairOf (fixedValue s n d) .denominator < 2 ^ 15)
+unfolding fixedValue pairOf
+value-small s n d i j =
+    let P : Value → Type 0 = λ v. (pairOf v .numerator < 2 ^ 15) × (pairOf v .denominator < 2 ^ 15) in
+    if-case P (eqb n 0) _ _
+    (λ e. if-case P (eqb (d % 2) 1) _ _ (λ o. (omega arith, omega arith)) (λ o. (omega arith, omega arith)))
+    (λ e. if-case P (eqb d 0) _ _
+    (λ z. if-case P (eqb (n % 2) 1) _ _ (λ o. (omega arith, omega arith)) (λ o. (omega arith, omega arith)))
+    (λ z. (i, j)))
+
+pub fraction-small : (w : ℕ) → (fractionOf w .numerator < 2 ^ 15) × (fractionOf w .denominator < 2 ^ 15)
+unfolding fractionOf numberOf fixedNumber bits
+fraction-small w = value-small _ _ _ (mod-lt _ (omega arith)) (mod-lt _ (omega arith))
 
 -- the answers of `Ratio::word`
 module _ (r : Ratio) where
@@ -203,41 +219,8 @@ module _ (s : Sums) where
   unfolding nightRatio
   night-shown p = if-case ShownRatio (noneLeft s) _ _ (λ h. tt) (λ h. ratio-shown _ _ (some-left h) p)
 
-  pub sum-void : (b : Breath) → isVoid b ≡ true → s ≡ withBreath s b
-  unfolding withBreath
-  sum-void b h = rw h refl
-
-  pub sum-good : (b : Breath) → isVoid b ≡ false
-      → record { inspiration = s .inspiration + b .inspiration; whole = s .whole + b .whole } ≡ withBreath s b
-  unfolding withBreath
-  sum-good b h = rw h refl
-
--- the sums with a breath more
-module _ (s : Sums) (b : Breath) where
-  pub sum-bounds : withBreath s b .whole ≤ s .whole + b .whole
-  sum-bounds = go (isVoid b) refl
-    where
-      go : (t : Bool) → isVoid b ≡ t → withBreath s b .whole ≤ s .whole + b .whole
-      go true h = omega (arith, ap (λ (x : Sums). x .whole) (sum-void s b h))
-      go false h = omega (arith, ap (λ (x : Sums). x .whole) (sum-good s b h))
-
-  pub sum-proper : Proper s → Proper (withBreath s b)
-  sum-proper p = go (isVoid b) refl
-    where
-      go : (t : Bool) → isVoid b ≡ t → withBreath s b .inspiration ≤ withBreath s b .whole
-      go true h = subst Proper (sum-void s b h) p
-      go false h =
-          let g = good-breath b h in
-          omega (arith, p, g .1, ap (λ (x : Sums). x .whole) (sum-good s b h), ap (λ (x : Sums). x .inspiration) (sum-good s b h))
-
-  -- none is left just where none was left before and this breath is void
-  pub none-left : noneLeft (withBreath s b) ≡ (noneLeft s && isVoid b)
-  unfolding noneLeft
-  none-left = go (isVoid b) refl
-    where
-      go : (t : Bool) → isVoid b ≡ t → eqb (withBreath s b .whole) 0 ≡ (eqb (s .whole) 0 && isVoid b)
-      go true h = rw (h, sym (sum-void s b h)) (sym (and-true (eqb (s .whole) 0)))
-      go false h =
-          let g = good-breath b h in
-          let n : withBreath s b .whole ≡ 0 → ⊥ = λ e. omega (arith, g .0, ap (λ (x : Sums). x .whole) (sum-good s b h)) in
-          ne-eqb _ _ n ∙ rw h (sym (and-false (eqb (s .whole) 0)))
+-- Demand 3, of some breaths.
+pub breaths-best : (bs : List Breath) → BestBreaths bs
+unfolding BestBreaths
+breaths-best [] = tt
+breaths-best (b ∷ bs) = (breath-best b, breaths-best bs)

@@ -1,6 +1,7 @@
 -- A breath and a night: durations, what is void, the ratio as a slash word.
 use Prim.Native.Nat.{ℕ, _+_, _-_, _%_, _^_}
-use mathlib.Core.Bool.{Bool, false, _||_}
+use mathlib.Core.Bool.{Bool, true, false, _&&_, _||_}
+use mathlib.Core.List.{List, [], _∷_}
 use lib.Dec.{eqb, ltb}
 use Rattle.convergents.specs.Choice.{if_then_else_}
 use Rattle.convergents.specs.Pairs.{Pair}
@@ -8,6 +9,8 @@ use Rattle.slash.specs.Words.{numberOf, wordFor, exactRatio, pairOf, BestFor}
 use Rattle.slash.specs.declared.format.Format.{Format}
 use Rattle.breaths.specs.declared.breath.Breath.{Breath}
 use Rattle.breaths.specs.declared.breath.Sums.{Sums}
+use Rattle.breaths.specs.declared.breath.Added.{Added}
+use Rattle.breaths.specs.declared.breath.Added.the-variants.{Done, Full}
 use Rattle.breaths.specs.declared.ratio.Ratio.{Ratio}
 use Rattle.breaths.specs.declared.ratio.Ratio.the-variants.{Void, Word}
 
@@ -34,7 +37,20 @@ ratioWord N D = wordFor format false (exactRatio N D .value)
 unfoldable pub breathRatio : Breath → Ratio
 breathRatio b = if isVoid b then Void else Word (ratioWord (b .inspiration) (b .whole))
 
--- The sums of a night: of in, and of whole, void breaths left out.
+-- The breaths that aren't void.
+unfoldable pub good : List Breath → List Breath
+good [] = []
+good (b ∷ bs) = elim (isVoid b) [ true ↦ good bs | false ↦ b ∷ good bs ]
+
+unfoldable pub sumOf : (Breath → ℕ) → List Breath → ℕ
+sumOf f [] = 0
+sumOf f (b ∷ bs) = f b + sumOf f bs
+
+-- The sums of a night's breaths: of in, and of whole, void breaths left out.
+unfoldable pub sumsOf : List Breath → Sums
+sumsOf bs = record { inspiration = sumOf (λ b. b .inspiration) (good bs); whole = sumOf (λ b. b .whole) (good bs) }
+
+-- The same breath by breath: the sums of none, and those with one breath more (proved to be the same: `add-breath`).
 abbrev pub noSums : Sums
 noSums = record { inspiration = 0; whole = 0 }
 
@@ -42,6 +58,18 @@ unfoldable pub withBreath : Sums → Breath → Sums
 withBreath s b =
     if isVoid b then s
     else record { inspiration = s .inspiration + b .inspiration; whole = s .whole + b .whole }
+
+-- Two sums in one.
+unfoldable pub addSums : Sums → Sums → Sums
+addSums s t = record { inspiration = s .inspiration + t .inspiration; whole = s .whole + t .whole }
+
+-- Sums that 64 bits hold.
+unfoldable pub fits : Sums → Bool
+fits s = ltb (s .inspiration) (2 ^ 64) && ltb (s .whole) (2 ^ 64)
+
+-- What adding a breath answers: the sums with it, where 64 bits hold them. (Those of every night do: `night-fits`.)
+unfoldable pub oneMore : Sums → Breath → Added
+oneMore s b = if fits (withBreath s b) then Done (withBreath s b) else Full
 
 -- No breath is left: each that is has a whole of at least 1.
 unfoldable pub noneLeft : Sums → Bool
@@ -64,3 +92,8 @@ fractionOf w = pairOf (numberOf format w .value)
 unfoldable pub BestRatio : (N D : ℕ) → Ratio → Type 0
 BestRatio N D Void = Unit {0}
 BestRatio N D (Word w) = BestFor format N D w
+
+-- The same of each of some breaths: void, or its word is best for its in and its whole.
+unfoldable pub BestBreaths : List Breath → Type 0
+BestBreaths [] = Unit {0}
+BestBreaths (b ∷ bs) = BestRatio (b .inspiration) (b .whole) (breathRatio b) × BestBreaths bs

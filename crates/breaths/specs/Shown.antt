@@ -1,15 +1,15 @@
 -- What holds of the ratios of breaths and nights, for those that print them.
-use Prim.Native.Nat.{ℕ, _≤_}
+use Prim.Native.Nat.{ℕ, _^_, _≤_, _<_}
 use Rattle.breaths.specs.Breaths.{fractionOf}
 use Rattle.breaths.specs.declared.breath.Sums.{Sums}
 use Rattle.breaths.specs.declared.ratio.Ratio.{Ratio}
 use Rattle.breaths.specs.declared.ratio.Ratio.the-variants.{Void, Word}
 
--- A word of a ratio from 0 to 1, as every ratio of a breath or of a night is.
+-- A word of a ratio from 0 to 1, as every ratio of a breath or of a night is: its sign (bit 31) is 0, and nothing stands above it.
 pub record Shown (w : ℕ) : Type 0 where
+  pub unsigned : w < 2 ^ 31
   pub some : 1 ≤ fractionOf w .denominator
   pub proper : fractionOf w .numerator ≤ fractionOf w .denominator
-  pub small : fractionOf w .denominator ≤ 32767
 
 abbrev pub ShownRatio : Ratio → Type 0
 ShownRatio Void = Unit {0}

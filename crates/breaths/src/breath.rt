@@ -1,6 +1,6 @@
 // A breath's durations, and a night's sums of them.
 ghost use mathlib.Core.Path.{_≡_};
-ghost use Rattle.breaths.specs.Breaths.{breathOf, isVoid, breathRatio, nightRatio, BestRatio};
+ghost use Rattle.breaths.specs.Breaths.{breathOf, isVoid, breathRatio, oneMore, nightRatio, BestRatio};
 use crate::ratio::Ratio;
 use crate::ratio::rounded;
 
@@ -15,6 +15,15 @@ pub struct Sums {
     pub inspiration: u64,
     pub whole: u64,
 }
+
+// The sums with one breath more, or that a sum has no room for it. A night's sums always have.
+pub enum Added {
+    Done(Sums),
+    Full,
+}
+
+// The largest sum that has room.
+const MOST: u64 = 18446744073709551615;
 
 impl Breath {
     // The breath between two onsets, from its tick marks.
@@ -47,6 +56,27 @@ impl Breath {
 }
 
 impl Sums {
+    // The sums with one breath more: a void breath is left out.
+    pub fn with_breath(self, b: Breath) -> Added
+        ensures { λ r. ⌜ r ≡ oneMore self b ⌝ }
+    {
+        if b.is_void() {
+            return Added::Done(self);
+        }
+        let inspiration = b.inspiration as u64;
+        let whole = b.whole as u64;
+        if MOST - inspiration < self.inspiration {
+            return Added::Full;
+        }
+        if MOST - whole < self.whole {
+            return Added::Full;
+        }
+        Added::Done(Sums {
+            inspiration: self.inspiration + inspiration,
+            whole: self.whole + whole,
+        })
+    }
+
     // The ratio of a night: void if no breath is left to sum.
     pub fn ratio(self) -> Ratio
         ensures defined { λ r. ⌜ r ≡ nightRatio self ⌝ }

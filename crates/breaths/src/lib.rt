@@ -2,6 +2,7 @@
 mod breath;
 mod ratio;
 
+pub use breath::Added;
 pub use breath::Breath;
 pub use breath::Sums;
 pub use ratio::Ratio;

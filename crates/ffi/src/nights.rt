@@ -1,13 +1,21 @@
 // The listing of a recording.
 ghost use mathlib.Core.Path.{_≡_};
-ghost use lib.ListN.{length};
-ghost use Rattle.recording.specs.Listing.{listingOf, atStart};
+ghost use Rattle.listing.specs.Nights.{nightOutcome, lengthOf, listAfter, BestNight};
+ghost use Rattle.ffi.specs.Status.{status, behind};
+use crate::status::store;
 
-// Its length; it stands at the start of the lent array. Nothing stops this call.
+// The listing stands at the start of the lent array, and its length behind the pointer. Stops 8 to
+// 12, at a line.
 #[no_mangle]
-pub extern "C" fn slash_night(bytes: &[u8], listing: &mut [u8; 2162719]) -> u64
-    ensures counted { λ r. ⌜ r ≡ length (listingOf (now (bytes .entry))) ⌝ }
-    ensures stored { λ _. ⌜ now (listing .exit) ≡ atStart (listingOf (now (bytes .entry))) (now (listing .entry)) ⌝ }
+pub extern "C" fn slash_night(
+    recording: &[u8],
+    listing: &mut [u8; 2162719],
+    length: &mut u64,
+) -> u64
+    ensures returned { λ r. ⌜ r ≡ status (lengthOf (nightOutcome (now (recording .entry)))) ⌝ }
+    ensures counted { λ _. ⌜ now (length .exit) ≡ behind (lengthOf (nightOutcome (now (recording .entry)))) (now (length .entry)) ⌝ }
+    ensures stored { λ _. ⌜ now (listing .exit) ≡ listAfter (nightOutcome (now (recording .entry))) (now (listing .entry)) ⌝ }
+    ensures best { λ _. ⌜ BestNight (now (recording .entry)) ⌝ }
 {
-    recording::list(bytes, listing) as u64
+    store(listing::list(recording, listing), length)
 }

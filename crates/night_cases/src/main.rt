@@ -1,6 +1,7 @@
 // Runs recipes for recordings from standard input, one a line, and writes the listing of each, or
 // its length, checksum and end where it is long. Each is listed in small pieces too, which must make
-// the same listing. tests/second writes the recipes and what the answers must be.
+// the same listing; of a recording with a stop only the pieces and the line of the stop are.
+// tests/second writes the recipes and what the answers must be.
 mod pieces;
 mod recipe;
 mod show;
@@ -9,6 +10,7 @@ ghost use mathlib.Core.Path.{_≡_};
 ghost use lib.ListN.{length};
 use libc::STDIN_FILENO;
 use recipe::Recipe;
+use slash::Answer;
 
 fn recording_buffer() -> [u8; 2300000]
     ensures { λ r. ⌜ 2300000 ≡ length r ⌝ }
@@ -22,13 +24,26 @@ fn listing_buffer() -> [u8; 2162719]
     [0; 2162719]
 }
 
-// The listing of the recording that a recipe made. Pieces that don't make it are told.
+// The listing of a recording, whole, or in pieces where a stop refuses it. Pieces that don't make it
+// are told.
+fn list(bytes: &[u8], listing: &mut [u8; 2162719]) {
+    match listing::list(bytes, listing) {
+        Answer::Done(k) => {
+            show::listing(listing, k as usize);
+            pieces::compare(bytes, listing, k as usize);
+        }
+        Answer::Stopped(_) => {
+            let k = pieces::store(bytes, listing);
+            show::listing(listing, k);
+        }
+    }
+}
+
+// The listing of the recording that a recipe made.
 fn run(r: Recipe, bytes: &[u8], listing: &mut [u8; 2162719]) {
     let n = r.end;
     if n <= bytes.len() {
-        let k = recording::list(&bytes[..n], listing);
-        show::listing(listing, k);
-        pieces::compare(&bytes[..n], listing, k);
+        list(&bytes[..n], listing);
     }
     show::text(b"\n");
 }

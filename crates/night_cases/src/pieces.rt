@@ -4,8 +4,8 @@ ghost use mathlib.Core.Bool.{true};
 ghost use Prim.Native.Nat.{_+_, _≤_};
 ghost use lib.ListN.{length};
 use crate::show;
-use recording::End;
-use recording::Night;
+use listing::End;
+use listing::Night;
 
 // So many bytes more are handed over at each turn: lines are cut anywhere.
 const AT_ONCE: usize = 45;
@@ -48,7 +48,7 @@ fn make(bytes: &[u8], listing: &[u8]) -> bool {
     while left > 0 {
         end = next_end(end, bytes.len());
         let last = end == bytes.len();
-        let piece = recording::list_piece(night, &bytes[from..end], last, &mut out);
+        let piece = listing::list_piece(night, &bytes[from..end], last, &mut out);
         let length = piece.length;
         if !stands(&out[..length], listing, at) {
             return false;
@@ -73,4 +73,62 @@ pub(crate) fn compare(bytes: &[u8], array: &[u8], length: usize) {
     if !make(bytes, &array[..length]) {
         show::text(b"THE PIECES DIFFER FROM THE LISTING\n");
     }
+}
+
+// Copies a line to a place, where it has room, and answers the place behind it.
+fn copied(line: &[u8], out: &mut [u8], at: usize) -> usize
+    requires { ⌜ at ≤ length (now out) ⌝ }
+{
+    if out.len() - at < line.len() {
+        return at;
+    }
+    let mut i = 0;
+    while i < line.len() {
+        out[at + i] = line[i];
+        i += 1;
+    }
+    at + i
+}
+
+fn line_buffer() -> [u8; 50]
+    ensures { λ r. ⌜ 50 ≡ length r ⌝ }
+{
+    [0; 50]
+}
+
+// Stores the line of a stop, and answers the place behind it.
+fn put_stop(end: End, out: &mut [u8], at: usize) -> usize
+    requires { ⌜ at ≤ length (now out) ⌝ }
+{
+    let End::Refused(stop) = end else {
+        return at;
+    };
+    let mut line = line_buffer();
+    let n = text::refused_line(stop, &mut line);
+    copied(&line[..n], out, at)
+}
+
+// Stores the pieces of a recording one behind the other, and the line of its stop, and answers how
+// long they are.
+pub(crate) fn store(bytes: &[u8], out: &mut [u8]) -> usize {
+    let mut night = Night::begun();
+    let mut from = 0;
+    let mut end = 0;
+    let mut at = 0;
+    // At most so many turns, since a program has to end.
+    let mut left: u64 = 1000000;
+    while left > 0 {
+        end = next_end(end, bytes.len());
+        let last = end == bytes.len();
+        let piece = listing::list_piece(night, &bytes[from..end], last, &mut out[at..]);
+        at += piece.length;
+        let how = piece.end;
+        let End::Open = how else {
+            return put_stop(how, out, at);
+        };
+        from += piece.used;
+        night = piece.night;
+        left -= 1;
+    }
+    at
 }

@@ -1,10 +1,5 @@
 -- The laws that the functions' proofs cite, and what follows from the definitions.
-pub mod TextLaws
-pub mod ColumnLaws
 pub mod LineLaws
 pub mod StartLaws
-pub mod NightLaws
-pub mod ListingLaws
-pub mod PieceLaws
+pub mod ReadingLaws
 pub mod Marks
-pub mod Example

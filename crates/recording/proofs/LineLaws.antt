@@ -3,18 +3,20 @@ use mathlib.Core.Path.{_≡_, refl, sym, ap, _∙_, subst}
 use mathlib.Core.Bool.{Bool, true, false, _&&_, _||_, and-false, or-true}
 use mathlib.Core.Logic.{_⊎_, inl, inr}
 use mathlib.Core.List.{List, [], _∷_, _++_, append-assoc, append-nil}
-use Prim.Native.Nat.{ℕ, zero, suc, _+_, _-_, _*_, _^_, _≤_, _<_, min}
+use Prim.Native.Nat.{ℕ, suc, _+_, _-_, _*_, _^_, _≤_, _<_, min}
 use native.Mathlib.Omega.{arith}
 use native.Mathlib.Nat.{mod-lt, pow-suc, pow-le-pow-right}
 use native.Mathlib.Numerals.{add-one}
 use native.Mathlib.Decide.{decLe, ℕ-discrete}
 use lib.Dec.{eqb, leb, ltb}
-use lib.ListN.{length, getD, take, drop, length-take, length-drop}
-use lib.Seq.{drop-cons, split-at, take-suc, take-all, drop-length, getD-drop}
+use lib.ListN.{length, getD, take, drop, length-append, length-take, length-drop}
+use lib.Seq.{take-append-le, split-at, take-suc, take-all, getD-drop}
 use borrow.Author.Tests.{eq-eqb, ne-eqb, le-leb, lt-leb, le-ltb, lt-ltb, leb-true}
 use Rattle.convergents.specs.Choice.{if_then_else_}
 use Rattle.breaths.specs.Breaths.{span, breathOf}
-use Rattle.recording.specs.Lines.{isDigit, digitsFrom, readMark, lengthBefore, inFirst, fields, fromMarks, fromFields, readLine}
+use Rattle.text.specs.Parts.{lengthBefore, isDigit, inFirst, fields}
+use Rattle.text.proofs.FindLaws.{before-step, before-le, before-take, before-taken, before-far, before-append}
+use Rattle.recording.specs.Lines.{digitsFrom, readMark, fromMarks, fromFields, readLine}
 use Rattle.recording.specs.Starts.{Led}
 use Rattle.breaths.specs.declared.breath.Breath.{Breath}
 use Rattle.recording.specs.declared.line.Mark.{Mark}
@@ -22,54 +24,6 @@ use Rattle.recording.specs.declared.line.Mark.the-variants.{Tick, Wrong}
 use Rattle.recording.specs.declared.line.Entry.{Entry}
 use Rattle.recording.specs.declared.line.Line.{Line}
 use Rattle.recording.specs.declared.line.Line.the-variants.{Read, Refused}
-
--- past the end nothing is left
-drop-past : (bs : List ℕ) (i : ℕ) → i ≡ length bs → drop i bs ≡ []
-drop-past bs i e = ap (λ (j : ℕ). drop j bs) e ∙ drop-length bs
-
--- ---- the first place of a byte
-
-module _ (b : ℕ) where
-  pub before-step : (x : ℕ) (xs : List ℕ) (t : Bool) → eqb x b ≡ t → lengthBefore b (x ∷ xs) ≡ elim t [ true ↦ 0 | false ↦ suc (lengthBefore b xs) ]
-  unfolding lengthBefore
-  before-step x xs t e = ap (λ (y : Bool). elim y as (λ z. ℕ) [ true ↦ 0 | false ↦ suc (lengthBefore b xs) ]) e
-
-  before-nil : lengthBefore b [] ≡ 0
-  unfolding lengthBefore
-  before-nil = refl
-
-  pub before-le : (bs : List ℕ) → lengthBefore b bs ≤ length bs
-  before-le [] = omega (arith, before-nil)
-  before-le (x ∷ xs) = go (eqb x b) refl (before-le xs)
-    where
-      go : (t : Bool) → eqb x b ≡ t → lengthBefore b xs ≤ length xs → lengthBefore b (x ∷ xs) ≤ suc (length xs)
-      go true e h = omega (arith, before-step x xs true e)
-      go false e h = omega (arith, before-step x xs false e)
-
-pub record Seeking (b : ℕ) (bs : List ℕ) (i : ℕ) : Type 0 where
-  pub within : i ≤ length bs
-  pub total : i + lengthBefore b (drop i bs) ≡ lengthBefore b bs
-
-pub seeking-start : (b : ℕ) (bs : List ℕ) → Seeking b bs 0
-seeking-start b bs = record { within = omega arith; total = omega arith }
-
-module _ {b : ℕ} {bs : List ℕ} {i : ℕ} (s : Seeking b bs i) where
-  here : i < length bs → (t : Bool) → eqb (getD bs i 0) b ≡ t
-      → lengthBefore b (drop i bs) ≡ elim t [ true ↦ 0 | false ↦ suc (lengthBefore b (drop (i + 1) bs)) ]
-  here l t e =
-      ap (lengthBefore b) (drop-cons bs i 0 l) ∙ before-step b (getD bs i 0) (drop (suc i) bs) t e
-      ∙ ap (λ (j : ℕ). elim t as (λ z. ℕ) [ true ↦ 0 | false ↦ suc (lengthBefore b (drop j bs)) ]) (sym (add-one i))
-
-  pub seeking-found : i < length bs → getD bs i 0 ≡ b → (i ≤ length bs) × (i ≡ lengthBefore b bs)
-  seeking-found l e = (s .within, omega (arith, s .total, here l true (eq-eqb _ _ e)))
-
-  pub seeking-next : i < length bs → (getD bs i 0 ≡ b → ⊥) → Seeking b bs (i + 1)
-  seeking-next l e = record { within = omega arith; total = omega (arith, s .total, here l false (ne-eqb _ _ e)) }
-
-  pub seeking-end : length bs ≤ i → (i ≤ length bs) × (i ≡ lengthBefore b bs)
-  seeking-end l =
-      let e : i ≡ length bs = omega (arith, s .within) in
-      (s .within, omega (arith, s .total, ap (lengthBefore b) (drop-past bs i e), before-nil b))
 
 -- ---- digits
 
@@ -146,16 +100,16 @@ module _ {bs : List ℕ} {from limit v i : ℕ} (d : Leading bs from limit v i) 
       omega (arith, d .few)
 
   pub leading-end : limit ≤ i → Led bs from limit v i
-  leading-end l = record { count = d .count; place = d .place; within = d .within; goes = d .goes; stopped = λ h. absurd (omega arith) }
+  leading-end l = record { count = d .count; place = d .place; within = d .within; few = d .few; goes = d .goes; stopped = λ h. absurd (omega arith) }
 
   abbrev x : ℕ
   x = getD bs i 0
 
   pub leading-low : x < 48 → Led bs from limit v i
-  leading-low h = record { count = d .count; place = d .place; within = d .within; goes = d .goes; stopped = λ _. digit-low _ h }
+  leading-low h = record { count = d .count; place = d .place; within = d .within; few = d .few; goes = d .goes; stopped = λ _. digit-low _ h }
 
   pub leading-high : 57 < x → Led bs from limit v i
-  leading-high h = record { count = d .count; place = d .place; within = d .within; goes = d .goes; stopped = λ _. digit-high _ h }
+  leading-high h = record { count = d .count; place = d .place; within = d .within; few = d .few; goes = d .goes; stopped = λ _. digit-high _ h }
 
   pub leading-next : i < limit → limit ≤ length bs → 48 ≤ x → x ≤ 57 → Leading bs from limit (v * 10 + (x - 48)) (i + 1)
   leading-next l long low high =
@@ -384,32 +338,33 @@ module _ (bs : List ℕ) (most : ℕ) (me : most ≡ min 33 (length bs)) where
 -- ---- what holds of every line that is read
 
 -- It uses from 1 to 33 of the bytes, and its durations are below 2^32; a stop's number has at most two digits.
+-- A breath's line is what stands before the first line feed, and that; it has at most 33 bytes.
 pub record Whole (bs : List ℕ) (e : Entry) : Type 0 where
-  pub some : 1 ≤ e .used
+  pub ended : e .used ≡ suc (lengthBefore 10 bs)
   pub within : e .used ≤ length bs
   pub short : e .used ≤ 33
   pub small : e .breath .whole < 2 ^ 32
 
 abbrev pub Sound : List ℕ → Line → Type 0
 Sound bs (Read e) = Whole bs e
-Sound bs (Refused stop) = stop < 100
+Sound bs (Refused stop) = (9 ≤ stop) × (stop ≤ 11)
 
-module _ (bs : List ℕ) (used : ℕ) (some : 1 ≤ used) (within : used ≤ length bs) (short : used ≤ 33) where
+module _ (bs : List ℕ) (used : ℕ) (ended : used ≡ suc (lengthBefore 10 bs)) (within : used ≤ length bs) (short : used ≤ 33) where
   marks-sound : (onset peak next : Mark) → Sound bs (fromMarks used onset peak next)
   unfolding fromMarks breathOf span
   marks-sound (Tick o) (Tick p) (Tick n) =
-      record { some = some; within = within; short = short; small = mod-lt (n + (2 ^ 32 - o)) (omega arith) }
-  marks-sound Wrong p n = omega arith
-  marks-sound (Tick o) Wrong n = omega arith
-  marks-sound (Tick o) (Tick p) Wrong = omega arith
+      record { ended = ended; within = within; short = short; small = mod-lt (n + (2 ^ 32 - o)) (omega arith) }
+  marks-sound Wrong p n = (omega arith, omega arith)
+  marks-sound (Tick o) Wrong n = (omega arith, omega arith)
+  marks-sound (Tick o) (Tick p) Wrong = (omega arith, omega arith)
 
   fields-sound : (l : List (List ℕ)) → Sound bs (fromFields used l)
   unfolding fromFields
-  fields-sound [] = omega arith
-  fields-sound (x ∷ []) = omega arith
-  fields-sound (x ∷ y ∷ []) = omega arith
+  fields-sound [] = (omega arith, omega arith)
+  fields-sound (x ∷ []) = (omega arith, omega arith)
+  fields-sound (x ∷ y ∷ []) = (omega arith, omega arith)
   fields-sound (x ∷ y ∷ z ∷ []) = marks-sound (readMark x) (readMark y) (readMark z)
-  fields-sound (x ∷ y ∷ z ∷ v ∷ more) = omega arith
+  fields-sound (x ∷ y ∷ z ∷ v ∷ more) = (omega arith, omega arith)
 
 module _ (bs : List ℕ) where
   line-nine : length (take 33 bs) ≤ lengthBefore 10 (take 33 bs) → Refused 9 ≡ readLine bs
@@ -425,37 +380,15 @@ module _ (bs : List ℕ) where
   line-sound = go (decLe (length (take 33 bs)) (lengthBefore 10 (take 33 bs)))
     where
       go : Dec (length (take 33 bs) ≤ lengthBefore 10 (take 33 bs)) → Sound bs (readLine bs)
-      go (yes h) = let nine : 9 < 100 = omega arith in subst (Sound bs) (line-nine h) nine
+      go (yes h) = let nine : (9 ≤ 9) × (9 ≤ 11) = (omega arith, omega arith) in subst (Sound bs) (line-nine h) nine
       go (no h) =
           let k : ℕ = lengthBefore 10 (take 33 bs) in
           let l : k < length (take 33 bs) = omega arith in
           let t = length-take 33 bs in
-          subst (Sound bs) (line-read l) (fields-sound bs (suc k) (omega arith) (omega (arith, l, t)) (omega (arith, l, t)) (fields (take k bs)))
+          let e : suc k ≡ suc (lengthBefore 10 bs) = ap suc (before-taken 10 33 bs l) in
+          subst (Sound bs) (line-read l) (fields-sound bs (suc k) e (omega (arith, l, t)) (omega (arith, l, t)) (fields (take k bs)))
 
 -- ---- the paper's words for stop 9
-
--- what stands before b in the first m places: where b is among them, and where it isn't
-module _ (b : ℕ) where
-  pub before-take : (m : ℕ) (bs : List ℕ) → lengthBefore b bs < m → lengthBefore b (take m bs) ≡ lengthBefore b bs
-  before-take zero bs l = absurd (omega arith)
-  before-take (suc m) [] l = refl
-  before-take (suc m) (x ∷ xs) l = go (eqb x b) refl (before-take m xs)
-    where
-      go : (t : Bool) → eqb x b ≡ t → (lengthBefore b xs < m → lengthBefore b (take m xs) ≡ lengthBefore b xs)
-          → lengthBefore b (x ∷ take m xs) ≡ lengthBefore b (x ∷ xs)
-      go true e ih = before-step b x (take m xs) true e ∙ sym (before-step b x xs true e)
-      go false e ih =
-          let s : lengthBefore b (x ∷ xs) ≡ suc (lengthBefore b xs) = before-step b x xs false e in
-          before-step b x (take m xs) false e ∙ ap suc (ih (omega arith)) ∙ sym s
-
-  far : (m : ℕ) (bs : List ℕ) → m ≤ lengthBefore b bs → m ≤ lengthBefore b (take m bs)
-  far zero bs l = omega arith
-  far (suc m) [] l = absurd (omega (arith, before-nil b))
-  far (suc m) (x ∷ xs) l = go (eqb x b) refl (far m xs)
-    where
-      go : (t : Bool) → eqb x b ≡ t → (m ≤ lengthBefore b xs → m ≤ lengthBefore b (take m xs)) → suc m ≤ lengthBefore b (x ∷ take m xs)
-      go true e ih = absurd (omega (arith, before-step b x xs true e))
-      go false e ih = omega (arith, before-step b x (take m xs) false e, ih (omega (arith, before-step b x xs false e)))
 
 module _ (bs : List ℕ) where
   abbrev K : ℕ
@@ -469,7 +402,7 @@ module _ (bs : List ℕ) where
       go : Dec (33 ≤ K) → Dec (K ≡ length bs)
           → readLine bs ≡ (if eqb K (length bs) || ltb 32 K then Refused 9 else fromFields (suc K) (fields (take K bs)))
       go (yes l) e =
-          let i : length (take 33 bs) ≤ lengthBefore 10 (take 33 bs) = omega (arith, far 10 33 bs l, length-take 33 bs) in
+          let i : length (take 33 bs) ≤ lengthBefore 10 (take 33 bs) = omega (arith, before-far 10 33 bs l, length-take 33 bs) in
           rw (le-leb _ _ i, lt-ltb 32 K l, or-true) refl
       go (no l) (yes e) =
           let n : lengthBefore 10 (take 33 bs) ≡ K = before-take 10 33 bs (omega arith) in
@@ -480,3 +413,15 @@ module _ (bs : List ℕ) where
           let i : K < length (take 33 bs) = omega (arith, length-take 33 bs, before-le 10 bs) in
           let j : K ≤ 32 = omega arith in
           rw (n, lt-leb _ _ i, ne-eqb _ _ e, le-ltb _ _ j) refl
+
+-- What follows a line feed doesn't change the line.
+pub ended-line : (bs more : List ℕ) → lengthBefore 10 bs < length bs → readLine (bs ++ more) ≡ readLine bs
+ended-line bs more l =
+    let k : lengthBefore 10 (bs ++ more) ≡ lengthBefore 10 bs = before-append 10 bs more l in
+    let far : lengthBefore 10 bs ≡ length (bs ++ more) → ⊥ = λ e. omega (arith, length-append bs more) in
+    let near : lengthBefore 10 bs ≡ length bs → ⊥ = λ e. omega arith in
+    let same : take (lengthBefore 10 bs) (bs ++ more) ≡ take (lengthBefore 10 bs) bs = take-append-le (lengthBefore 10 bs) bs more (omega arith) in
+    let line : Line = if ltb 32 (lengthBefore 10 bs) then Refused 9 else fromFields (suc (lengthBefore 10 bs)) (fields (take (lengthBefore 10 bs) bs)) in
+    let there : readLine (bs ++ more) ≡ line = rw (line-words (bs ++ more), k, ne-eqb _ _ far, same) refl in
+    let here : readLine bs ≡ line = rw (line-words bs, ne-eqb _ _ near) refl in
+    there ∙ sym here

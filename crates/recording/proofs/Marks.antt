@@ -9,11 +9,12 @@ use native.Mathlib.Decide.{decLt, ℕ-discrete}
 use lib.Dec.{leb}
 use lib.ListN.{length, getD, length-append, List·getD-append}
 use borrow.Author.Tests.{le-leb, leb-true}
-use Rattle.recording.specs.Text.{decimalFrom, decimal}
-use Rattle.recording.specs.Lines.{isDigit, digitsFrom, readMark}
+use Rattle.text.specs.Numbers.{decimalFrom, decimal}
+use Rattle.text.specs.Parts.{isDigit}
+use Rattle.recording.specs.Lines.{digitsFrom, readMark}
 use Rattle.recording.specs.declared.line.Mark.{Mark}
 use Rattle.recording.specs.declared.line.Mark.the-variants.{Tick, Wrong}
-use Rattle.recording.proofs.TextLaws.{from-small, from-more, decimal-small, decimal-more, decimal-length}
+use Rattle.text.proofs.NumberLaws.{from-small, from-more, decimal-small, decimal-more, decimal-length}
 use Rattle.recording.proofs.LineLaws.{digits-step, digit-good, no-tick, digit-bounds, mark-empty, mark-leading, mark-digits}
 
 -- ---- every such decimal is taken

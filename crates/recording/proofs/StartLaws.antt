@@ -3,32 +3,31 @@ use mathlib.Core.Path.{_≡_, refl, sym, ap, _∙_, subst}
 use mathlib.Core.Bool.{Bool, true, false, _&&_}
 use mathlib.Core.Logic.{_⊎_, inl, inr, ⊎-elim}
 use mathlib.Core.List.{List, [], _∷_, _++_, append-assoc, append-nil}
-use Prim.Native.Nat.{ℕ, zero, suc, _+_, _-_, _*_, _≤_, _<_}
+use Prim.Native.Nat.{ℕ, suc, _+_, _-_, _*_, _^_, _≤_, _<_}
 use native.Mathlib.Omega.{arith}
-use native.Mathlib.Nat.{add-zero}
-use lib.Dec.{eqb, leb}
+use native.Mathlib.Nat.{add-zero, pow-le-pow-right}
+use lib.Dec.{leb}
 use lib.ListN.{length, getD, take, drop, length-append, length-take, length-drop}
 use lib.Seq.{length-take-le, split-at, take-at, drop-at, drop-drop, getD-take, getD-drop}
 use borrow.Author.Tests.{ne-eqb}
 use Rattle.breaths.specs.Breaths.{breathOf}
-use Rattle.recording.specs.Lines.{isDigit, digitsFrom, lengthBefore, inFirst, fields, fromMarks, fromFields, readLine}
-use Rattle.recording.specs.Starts.{Led, Opens, Opened, Sought}
+use Rattle.text.specs.Parts.{isDigit, inFirst, fields, lengthBefore}
+use Rattle.recording.specs.Lines.{digitsFrom, fromMarks, fromFields, readLine}
+use Rattle.recording.specs.Starts.{Led, Opens, Sought, Ran, Passes, Spans}
 use Rattle.breaths.specs.declared.breath.Breath.{Breath}
 use Rattle.recording.specs.declared.line.Mark.the-variants.{Tick}
-use Rattle.recording.specs.declared.line.Ended.{Ended}
 use Rattle.recording.specs.declared.line.Entry.{Entry}
 use Rattle.recording.specs.declared.line.Line.the-variants.{Read}
 use Rattle.recording.specs.declared.line.Pass.{Pass}
 use Rattle.recording.specs.declared.line.Pass.the-variants as Pass
-use Rattle.recording.specs.declared.line.Start.{Start}
-use Rattle.recording.specs.declared.line.Start.the-variants as Start
-use Rattle.recording.proofs.LineLaws.{before-step, before-le, before-take, digits-step, no-tick, digit-bounds, mark-digits, led-tick, fields-step, fields-whole, line-read}
+use Rattle.text.proofs.FindLaws.{before-step, before-le, before-take}
+use Rattle.recording.proofs.LineLaws.{Leading, leading-start, leading-end, leading-low, leading-high, leading-next, digits-step, no-tick, digit-bounds, mark-digits, led-tick, fields-step, fields-whole, line-read}
 
 -- ---- a tick mark and the byte that ends it
 
-pub opens : {bs : List ℕ} {from v k : ℕ} (e : ℕ) → from + 11 ≤ length bs → Led bs from (from + 10) v k → getD bs k 0 ≡ e → (k ≡ from → ⊥)
+pub opens : {bs : List ℕ} {from limit v k : ℕ} (e : ℕ) → from + 11 ≤ length bs → limit ≤ from + 10 → Led bs from limit v k → getD bs k 0 ≡ e → (k ≡ from → ⊥)
     → v ≤ 4294967295 → (getD bs from 0 ≡ 48 → ⊥) ⊎ (k ≤ from + 1) → Opens bs from e v (k + 1)
-opens {bs} {from} {v} {k} e long l ended some small lead =
+opens {bs} {from} {limit} {v} {k} e long few l ended some small lead =
     let rest : List ℕ = drop from bs in
     let c : ℕ = l .count in
     let more : c < length rest = omega (arith, l .place, l .within, length-drop from bs) in
@@ -52,9 +51,6 @@ opens {bs} {from} {v} {k} e long l ended some small lead =
     }
 
 module _ {bs : List ℕ} {from e : ℕ} where
-  pub opened : {s : Start} → Opened bs from e s → (x : Ended) → s ≡ Start.Mark x → Opens bs from e (x .ticks) (x .behind)
-  opened o x d = subst (Opened bs from e) d o
-
   module _ {t u : ℕ} (o : Opens bs from e t u) where
     rest-is : drop u bs ≡ o .rest
     rest-is =
@@ -174,3 +170,41 @@ module _ {bs : List ℕ} {o p n i j k : ℕ} (x : Opens bs 0 9 o i) (y : Opens b
 
 pub sought : (bs : List ℕ) (s : Pass) → Sought bs s → (x : Entry) → s ≡ Pass.Breath x → Read x ≡ readLine bs
 sought bs s w x d = subst (Sought bs) d w
+
+-- ---- the same without the numbers
+
+-- digits so far, whatever their number
+pub record Running (bs : List ℕ) (from limit i : ℕ) : Type 0 where
+  pub value : ℕ
+  pub leading : Leading bs from limit value i
+
+pub running-start : (bs : List ℕ) (from limit : ℕ) → from ≤ limit → Running bs from limit from
+running-start bs from limit h = record { value = 0; leading = leading-start bs from limit h }
+
+module _ {bs : List ℕ} {from limit i : ℕ} (d : Running bs from limit i) where
+  pub running-end : limit ≤ i → Ran bs from limit i
+  running-end l = record { value = d .value; led = leading-end (d .leading) l }
+
+  pub running-low : getD bs i 0 < 48 → Ran bs from limit i
+  running-low h = record { value = d .value; led = leading-low (d .leading) h }
+
+  pub running-high : 57 < getD bs i 0 → Ran bs from limit i
+  running-high h = record { value = d .value; led = leading-high (d .leading) h }
+
+  pub running-next : i < limit → limit ≤ length bs → 48 ≤ getD bs i 0 → getD bs i 0 ≤ 57 → Running bs from limit (i + 1)
+  running-next l long low high = record { value = d .value * 10 + (getD bs i 0 - 48); leading = leading-next (d .leading) l long low high }
+
+-- nine digits are no number above the largest
+pub passes : {bs : List ℕ} {from k : ℕ} (e : ℕ) → from + 11 ≤ length bs → Ran bs from (from + 9) k → getD bs k 0 ≡ e → (k ≡ from → ⊥)
+    → (getD bs from 0 ≡ 48 → ⊥) ⊎ (k ≤ from + 1) → Passes bs from e (k + 1)
+passes {bs} {from} {k} e long r ended some lead =
+    let l : Led bs from (from + 9) (r .value) k = r .led in
+    let nine : 10 ^ l .count ≤ 10 ^ 9 = pow-le-pow-right {n = 10} (omega arith) {i = l .count} {j = 9} (omega (arith, l .place, l .within)) in
+    record { ticks = r .value; opens = opens e long (omega arith) l ended some (omega (arith, l .few, nine)) lead }
+
+pub three-marks : {bs : List ℕ} {i j k : ℕ} → Passes bs 0 9 i → Passes bs i 9 j → Passes bs j 10 k → Spans bs k
+three-marks x y z =
+    record {
+      breath = breathOf (x .ticks) (y .ticks) (z .ticks);
+      read = breath-read (x .opens) (y .opens) (z .opens) (breathOf (x .ticks) (y .ticks) (z .ticks)) refl;
+    }

@@ -1,9 +1,4 @@
--- What the papers say of a night's recording, in their order.
-pub mod Text
+-- What the papers say of a night's recording, in their order: a line, and line by line.
 pub mod Lines
-pub mod Columns
-pub mod Listing
-pub mod Pieces
-pub mod Example
+pub mod Reading
 pub mod Starts
-pub mod Stores

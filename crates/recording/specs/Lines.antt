@@ -1,21 +1,18 @@
 -- A line of a recording: onset, peak, next onset.
 use Prim.Native.Nat.{ℕ, suc, _+_, _-_, _*_}
-use mathlib.Core.Bool.{Bool, true, false, _&&_}
+use mathlib.Core.Bool.{true, false, _&&_}
 use mathlib.Core.List.{List, [], _∷_}
 use lib.Dec.{eqb, leb, ltb}
 use lib.ListN.{length, take}
 use Rattle.convergents.specs.Choice.{if_then_else_}
 use Rattle.breaths.specs.Breaths.{breathOf}
+use Rattle.text.specs.Parts.{lengthBefore, isDigit, fields}
 use Rattle.recording.specs.declared.line.Mark.{Mark}
 use Rattle.recording.specs.declared.line.Mark.the-variants.{Tick, Wrong}
 use Rattle.recording.specs.declared.line.Line.{Line}
 use Rattle.recording.specs.declared.line.Line.the-variants.{Read, Refused}
 
 -- ---- a tick mark
-
--- A digit, from 0 (byte 48) to 9 (byte 57).
-unfoldable pub isDigit : ℕ → Bool
-isDigit x = leb 48 x && leb x 57
 
 -- The number that goes on from `value` with some digits; one above 4294967295 is wrong, and so is any other byte.
 unfoldable pub digitsFrom : (value : ℕ) → List ℕ → Mark
@@ -27,23 +24,6 @@ digitsFrom value (x ∷ xs) =
 unfoldable pub readMark : List ℕ → Mark
 readMark [] = Wrong
 readMark (x ∷ xs) = if eqb x 48 && ltb 0 (length xs) then Wrong else digitsFrom 0 (x ∷ xs)
-
--- ---- fields
-
--- How many bytes stand before the first b: all of them if there is none.
-unfoldable pub lengthBefore : (b : ℕ) → List ℕ → ℕ
-lengthBefore b [] = 0
-lengthBefore b (x ∷ xs) = elim (eqb x b) [ true ↦ 0 | false ↦ suc (lengthBefore b xs) ]
-
--- A byte put in front of the first of some fields.
-abbrev pub inFirst : ℕ → List (List ℕ) → List (List ℕ)
-inFirst x [] = (x ∷ []) ∷ []
-inFirst x (first ∷ others) = (x ∷ first) ∷ others
-
--- The fields of a line, parted by tabs (byte 9).
-unfoldable pub fields : List ℕ → List (List ℕ)
-fields [] = [] ∷ []
-fields (x ∷ xs) = elim (eqb x 9) [ true ↦ [] ∷ fields xs | false ↦ inFirst x (fields xs) ]
 
 -- ---- a line
 

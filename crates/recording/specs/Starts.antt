@@ -1,18 +1,22 @@
 -- Reading in one pass: what the functions that read the start of some bytes promise.
-use Prim.Native.Nat.{ℕ, suc, _+_, _≤_, _<_}
+use Prim.Native.Nat.{ℕ, suc, _+_, _^_, _≤_, _<_}
 use mathlib.Core.Path.{_≡_}
 use mathlib.Core.Bool.{Bool, false, _&&_}
 use mathlib.Core.List.{List, _∷_, _++_}
 use lib.Dec.{leb}
 use lib.ListN.{length, getD, take, drop}
 use Rattle.convergents.specs.Choice.{if_then_else_}
-use Rattle.recording.specs.Lines.{isDigit, digitsFrom, readMark, readLine}
+use Rattle.breaths.specs.declared.breath.Breath.{Breath}
+use Rattle.text.specs.Parts.{isDigit}
+use Rattle.recording.specs.Lines.{digitsFrom, readMark, readLine}
 use Rattle.recording.specs.declared.line.Mark.the-variants.{Tick, Wrong}
 use Rattle.recording.specs.declared.line.Line.the-variants.{Read}
-use Rattle.recording.specs.declared.line.Start.{Start}
-use Rattle.recording.specs.declared.line.Start.the-variants as Start
 use Rattle.recording.specs.declared.line.Pass.{Pass}
 use Rattle.recording.specs.declared.line.Pass.the-variants as Pass
+use Rattle.recording.specs.declared.reading.Next.{Next}
+use Rattle.recording.specs.declared.reading.Next.the-variants as Next
+use Rattle.recording.specs.declared.reading.Length.{Length}
+use Rattle.recording.specs.declared.reading.Length.the-variants as Length
 
 -- From place `from` on stand the digits of v, up to place `end`: there is no digit, or it is the limit. Whatever bytes stand behind them go on
 -- from v, where v is a tick mark.
@@ -20,6 +24,7 @@ pub record Led (bs : List ℕ) (from limit v end : ℕ) : Type 0 where
   pub count : ℕ
   pub place : end ≡ from + count
   pub within : end ≤ limit
+  pub few : v < 10 ^ count
   pub goes : (xs : List ℕ) → digitsFrom 0 (take count (drop from bs) ++ xs) ≡ (if leb v 4294967295 then digitsFrom v xs else Wrong)
   pub stopped : end < limit → (t : Bool) → (isDigit (getD bs end 0) && t) ≡ false
 
@@ -33,11 +38,38 @@ pub record Opens (bs : List ℕ) (from e t behind : ℕ) : Type 0 where
   pub place : behind ≡ from + suc (length field)
   pub short : behind ≤ from + 11
 
--- Of anything else nothing is said.
-abbrev pub Opened : (bs : List ℕ) (from e : ℕ) → Start → Type 0
-Opened bs from e (Start.Mark x) = Opens bs from e (x .ticks) (x .behind)
-Opened bs from e Start.Other = Unit {0}
+-- Of a place 0 nothing is said.
+abbrev pub Opened : (bs : List ℕ) (from e t behind : ℕ) → Type 0
+Opened bs from e t behind = (behind ≡ 0 → ⊥) → Opens bs from e t behind
 
+-- What one pass finds is the line. Of anything else nothing is said.
 abbrev pub Sought : List ℕ → Pass → Type 0
 Sought bs (Pass.Breath x) = Read x ≡ readLine bs
 Sought bs Pass.Other = Unit {0}
+
+-- ---- the same without the numbers: what a line's length is found by
+
+pub record Ran (bs : List ℕ) (from limit end : ℕ) : Type 0 where
+  pub value : ℕ
+  pub led : Led bs from limit value end
+
+pub record Passes (bs : List ℕ) (from e behind : ℕ) : Type 0 where
+  pub ticks : ℕ
+  pub opens : Opens bs from e ticks behind
+
+abbrev pub Passed : (bs : List ℕ) (from e behind : ℕ) → Type 0
+Passed bs from e behind = (behind ≡ 0 → ⊥) → Passes bs from e behind
+
+-- The bytes start with a breath's line of so many bytes.
+pub record Spans (bs : List ℕ) (used : ℕ) : Type 0 where
+  pub breath : Breath
+  pub read : Read (record { breath = breath; used = used }) ≡ readLine bs
+
+abbrev pub Spanned : List ℕ → ℕ → Type 0
+Spanned bs used = (used ≡ 0 → ⊥) → Spans bs used
+
+-- How many bytes the next line takes, where it is a breath's.
+unfoldable pub nextLength : Next → Length
+nextLength (Next.Breath entry) = Length.Line (entry .used)
+nextLength Next.End = Length.End
+nextLength (Next.Stopped s) = Length.Stopped s

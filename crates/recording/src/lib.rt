@@ -1,14 +1,10 @@
-// A night's recording: its lines, and its listing, whole or in pieces.
-mod columns;
+// A night's recording: its lines, read one by one.
 mod line;
-mod listing;
-mod night;
-mod piece;
+mod measure;
+mod reading;
 mod stop;
-mod text;
 
-pub use night::End;
-pub use night::Night;
-pub use piece::Piece;
-pub use piece::list;
-pub use piece::list_piece;
+pub use line::Entry;
+pub use reading::Next;
+pub use reading::check;
+pub use reading::next_line;

@@ -2,16 +2,18 @@
 ghost use mathlib.Core.Path.{_≡_};
 ghost use Prim.Native.Nat.{_+_, _≤_, min};
 ghost use lib.ListN.{length};
-ghost use Rattle.recording.specs.Lines.{digitsFrom, readMark, lengthBefore, fields, fromMarks, fromFields, readLine};
+ghost use Rattle.text.specs.Parts.{fields};
+ghost use Rattle.recording.specs.Lines.{digitsFrom, readMark, fromMarks, fromFields, readLine};
 ghost use Rattle.recording.specs.Starts.{Led, Opened, Sought};
 use crate::stop;
 use breaths::Breath;
+use text::length_before;
 
-// The longest line of a recording, with its line feed, and of a listing.
+// The longest line of a recording, with its line feed.
 pub(crate) const MOST_BYTES: usize = 33;
 
-// The largest tick mark, and the longest duration.
-pub(crate) const MOST_TICKS: u64 = 4294967295;
+// The largest tick mark.
+const MOST_TICKS: u64 = 4294967295;
 
 // The most digits of a tick mark.
 const MOST_DIGITS: usize = 10;
@@ -23,9 +25,9 @@ pub(crate) enum Mark {
 }
 
 // A breath, and how many bytes its line uses, the line feed included.
-pub(crate) struct Entry {
-    pub(crate) breath: Breath,
-    pub(crate) used: usize,
+pub struct Entry {
+    pub breath: Breath,
+    pub used: usize,
 }
 
 // What a line says: a breath, or the number of a stop.
@@ -40,37 +42,10 @@ pub(crate) struct Digits {
     pub(crate) end: usize,
 }
 
-// A tick mark, and the place behind the byte that ends it.
-pub(crate) struct Ended {
-    pub(crate) ticks: u32,
-    pub(crate) behind: usize,
-}
-
-// What stands at a place: a tick mark and the byte that is to end it, or anything else.
-pub(crate) enum Start {
-    Mark(Ended),
-    Other,
-}
-
 // What one pass over a line finds: three tick marks, or anything else.
 pub(crate) enum Pass {
     Breath(Entry),
     Other,
-}
-
-// How many bytes stand before the first b.
-fn length_before(bytes: &[u8], b: u8) -> usize
-    ensures within { λ r. ⌜ r ≤ length (now (bytes .entry)) ⌝ }
-    ensures defined { λ r. ⌜ r ≡ lengthBefore b (now (bytes .entry)) ⌝ }
-{
-    let mut i = 0;
-    while i < bytes.len() {
-        if bytes[i] == b {
-            return i;
-        }
-        i += 1;
-    }
-    i
 }
 
 // The digits from a place on, up to a limit. Ten digits fit 64 bits, and no tick mark has more.
@@ -180,7 +155,7 @@ fn min(a: usize, b: usize) -> usize
 }
 
 // The line at the start of some bytes, whatever is wrong with it.
-fn read_any(bytes: &[u8]) -> Line
+pub(crate) fn read_any(bytes: &[u8]) -> Line
     ensures { λ r. ⌜ r ≡ readLine (now (bytes .entry)) ⌝ }
 {
     let most = min(bytes.len(), MOST_BYTES);
@@ -192,63 +167,59 @@ fn read_any(bytes: &[u8]) -> Line
     read_fields(k + 1, &bytes[..k])
 }
 
-// The tick mark from a place on that the byte `end` ends. It has room: ten digits and that byte.
-fn read_start(bytes: &[u8], from: usize, end: u8) -> Start
+// The tick mark from a place on that the byte `end` ends goes into the lent number; the answer is the
+// place behind both, or 0 where there is none. It has room: ten digits and that byte. (The next mark
+// is sought from a place in a register; the number isn't waited for.)
+fn read_start(bytes: &[u8], from: usize, end: u8, mark: &mut u32) -> usize
     requires { ⌜ from + 11 ≤ length (now bytes) ⌝ }
-    ensures { λ r. ⌜ Opened (now (bytes .entry)) from end r ⌝ }
+    ensures { λ r. ⌜ Opened (now (bytes .entry)) from end (now (mark .exit)) r ⌝ }
 {
     let d = leading_digits(bytes, from, from + MOST_DIGITS);
     let k = d.end;
     if bytes[k] != end {
-        return Start::Other;
+        return 0;
     }
     if k == from {
-        return Start::Other;
+        return 0;
     }
     if MOST_TICKS < d.value {
-        return Start::Other;
+        return 0;
     }
     if bytes[from] == b'0' {
         if from + 1 < k {
-            return Start::Other;
+            return 0;
         }
     }
-    Start::Mark(Ended {
-        ticks: d.value as u32,
-        behind: k + 1,
-    })
+    *mark = d.value as u32;
+    k + 1
 }
 
 // The breath at the start of some bytes, in one pass. Where they hold the longest line, three marks of
 // ten digits and the bytes that end them, no mark runs out of them.
-fn read_breath(bytes: &[u8]) -> Pass
+pub(crate) fn read_breath(bytes: &[u8]) -> Pass
     ensures { λ r. ⌜ Sought (now (bytes .entry)) r ⌝ }
 {
     if bytes.len() < MOST_BYTES {
         return Pass::Other;
     }
-    let Start::Mark(onset) = read_start(bytes, 0, b'\t') else {
+    let mut onset = 0;
+    let mut peak = 0;
+    let mut next = 0;
+    let second = read_start(bytes, 0, b'\t', &mut onset);
+    if second == 0 {
         return Pass::Other;
-    };
-    let Start::Mark(peak) = read_start(bytes, onset.behind, b'\t') else {
+    }
+    let third = read_start(bytes, second, b'\t', &mut peak);
+    if third == 0 {
         return Pass::Other;
-    };
-    let Start::Mark(next) = read_start(bytes, peak.behind, b'\n') else {
+    }
+    let behind = read_start(bytes, third, b'\n', &mut next);
+    if behind == 0 {
         return Pass::Other;
-    };
-    let b = Breath::between(onset.ticks, peak.ticks, next.ticks);
+    }
+    let b = Breath::between(onset, peak, next);
     Pass::Breath(Entry {
         breath: b,
-        used: next.behind,
+        used: behind,
     })
-}
-
-// The line at the start of some bytes. Where one pass finds no breath, the long way tells why.
-pub(crate) fn read_line(bytes: &[u8]) -> Line
-    ensures { λ r. ⌜ r ≡ readLine (now (bytes .entry)) ⌝ }
-{
-    match read_breath(bytes) {
-        Pass::Breath(entry) => Line::Read(entry),
-        Pass::Other => read_any(bytes),
-    }
 }

@@ -199,7 +199,7 @@ fn recipe_answer(line: &str) -> Vec<u8> {
         .filter(|piece| !piece.is_empty())
         .flat_map(piece)
         .collect();
-    let listing = night::listing(&recording);
+    let listing = night::printed(&recording);
     if listing.len() <= LONGEST_SHOWN {
         return listing;
     }

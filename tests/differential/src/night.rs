@@ -1,38 +1,49 @@
 //! The listing of a night's recording, from documents 00 and 01 alone.
 
-use crate::paper;
+use crate::paper::{self, Answer, Stop};
 
 const MOST_LINES: usize = 65536;
 const MOST_BYTES: usize = 32;
 
-/// The bytes that `night` prints for a recording.
-pub fn listing(recording: &[u8]) -> Vec<u8> {
+/// The listing of a recording, or the stop of its first bad line.
+pub fn listing(recording: &[u8]) -> Answer<Vec<u8>> {
     let mut listed = String::new();
-    match list(recording, &mut listed) {
-        Ok((inward, whole)) => listed += &row("all", inward, whole),
-        Err((number, line)) => listed += &format!("refused\t{number}\t{line}\n"),
+    list(recording, &mut listed)?;
+    Ok(listed.into_bytes())
+}
+
+/// The bytes that `night` prints for a recording: of a refused one the breaths before its bad line too.
+pub fn printed(recording: &[u8]) -> Vec<u8> {
+    let mut listed = String::new();
+    if let Err(Stop { number, place }) = list(recording, &mut listed) {
+        listed += &format!("refused\t{number}\t{place}\n");
     }
     listed.into_bytes()
 }
 
-/// Lists the breaths and gives the sums of those that aren't void, or a stop's number and line.
-fn list(recording: &[u8], listed: &mut String) -> Result<(u64, u64), (u64, usize)> {
-    let mut sums = (0, 0);
+/// Lists the breaths up to a bad line or, where there is none, to the line `all`.
+fn list(recording: &[u8], listed: &mut String) -> Answer<()> {
+    let stop_at = |line: usize| {
+        let place = line as u64;
+        move |number| Stop { number, place }
+    };
     if recording.is_empty() {
-        return Err((12, 1));
+        return Err(stop_at(1)(12));
     }
+    let mut sums = (0, 0);
     for (index, line) in recording.split_inclusive(|&byte| byte == b'\n').enumerate() {
         let number = index + 1;
         if number > MOST_LINES {
-            return Err((8, number));
+            return Err(stop_at(number)(8));
         }
-        let (inward, whole) = durations(line).map_err(|stop| (stop, number))?;
+        let (inward, whole) = durations(line).map_err(stop_at(number))?;
         *listed += &row(&number.to_string(), inward, whole);
         if !is_void(inward, whole) {
             sums = (sums.0 + inward, sums.1 + whole);
         }
     }
-    Ok(sums)
+    *listed += &row("all", sums.0, sums.1);
+    Ok(())
 }
 
 /// The breathing in and the whole breath of a line, or a stop's number.

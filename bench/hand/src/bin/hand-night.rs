@@ -1,6 +1,6 @@
 //! Standard input's recording, listed on standard output piece by piece as it comes.
 
-use hand::night::Night;
+use hand::night::{End, Night};
 use std::fs::File;
 use std::io::{self, Read, Write};
 use std::mem::ManuallyDrop;
@@ -24,8 +24,12 @@ fn main() -> io::Result<()> {
         }
         let piece = night.piece(&bytes[..held], last, &mut text);
         output.write_all(&text[..piece.length])?;
-        if !piece.open {
-            return Ok(());
+        match piece.end {
+            End::Open => {}
+            End::Closed => return Ok(()),
+            End::Refused { number, line } => {
+                return output.write_all(format!("refused\t{number}\t{line}\n").as_bytes());
+            }
         }
         bytes.copy_within(piece.used..held, 0);
         held -= piece.used;

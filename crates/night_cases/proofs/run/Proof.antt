@@ -11,15 +11,6 @@ slice-aggregate-list c = sym (length-take-le _ _ (c .before .if1 .taken))
 list-requires : tie.Need-list-requires
 list-requires c κs = search needs
 
-listing-requires : tie.Need-listing-requires
-listing-requires c κs = search needs
-
-slice-aggregate-compare : tie.Need-slice-aggregate-compare
-slice-aggregate-compare c = sym (length-take-le _ _ (c .before .before .before .before .before .before .before .if1 .taken))
-
-compare-requires : tie.Need-compare-requires
-compare-requires c κs = search needs
-
 slice-aggregate-text : tie.Need-slice-aggregate-text
 slice-aggregate-text c = search needs
 
@@ -35,9 +26,6 @@ run-spec =
     (tie.spec
     slice-aggregate-list
     list-requires
-    listing-requires
-    slice-aggregate-compare
-    compare-requires
     slice-aggregate-text
     text-requires
     returns)

@@ -149,8 +149,9 @@ pub unsafe extern "C" fn slash_night(
     recording: *const u8,
     recording_length: usize,
     listing: *mut u8,
+    length: *mut u64,
 ) -> u64 {
     let recording = from_raw_parts(recording, recording_length);
     let listing = from_raw_parts_mut(listing, hand::night::LISTING_BYTES);
-    hand::night::night(recording, listing) as u64
+    store(hand::night::night(recording, listing), length)
 }

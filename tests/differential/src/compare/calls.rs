@@ -269,33 +269,43 @@ impl Harness {
 
     // Calls on recordings.
 
-    /// Holds the listing and what lies around it, the whole rest of what is lent if asked.
+    /// Holds the listing and what lies around it, the whole rest of what is lent if asked. All that
+    /// a refused recording's call is lent is rest.
     pub fn night(&mut self, recording: &[u8], whole_rest: bool) {
-        let mut listing = std::mem::take(&mut self.listing);
-        let returned = unsafe {
-            let start = listing[GUARDS..].as_mut_ptr();
-            raw::slash_night(recording.as_ptr(), recording.len(), start)
-        };
+        let mut lent = std::mem::take(&mut self.listing);
+        let start = lent[GUARDS..].as_mut_ptr();
+        let archive = stored(|length| unsafe {
+            raw::slash_night(recording.as_ptr(), recording.len(), start, length)
+        });
         let papers = night::listing(recording);
+        let expected = told(
+            papers
+                .as_ref()
+                .map(|text| text.len() as u64)
+                .map_err(|&stop| stop),
+        );
+        let papers = papers.unwrap_or_default();
         let rest = GUARDS + papers.len();
         let seen = if whole_rest {
-            listing.len()
+            lent.len()
         } else {
-            listing.len().min(rest + REST_SEEN)
+            lent.len().min(rest + REST_SEEN)
         };
-        let around = [&listing[..GUARDS], &listing[rest..seen]];
+        let around = [&lent[..GUARDS], &lent[rest..seen]];
         let kept = around
             .iter()
             .all(|bytes| bytes.iter().all(|&byte| byte == LENT_BYTE));
-        let same = returned == papers.len() as u64 && listing[GUARDS..rest] == papers;
-        let input = String::from_utf8_lossy(&recording[..recording.len().min(500)]).into_owned();
+        let same = lent[GUARDS..rest] == papers;
         let shown =
             |bytes: &[u8]| String::from_utf8_lossy(&bytes[..bytes.len().min(500)]).into_owned();
-        let archive = (returned, same, kept, shown(&listing[GUARDS..rest]));
-        let expected = (papers.len() as u64, true, true, shown(&papers));
-        self.hold("slash_night", input, archive, expected);
-        let written = if kept && same { rest } else { listing.len() };
-        listing[..written].fill(LENT_BYTE);
-        self.listing = listing;
+        self.hold(
+            "slash_night",
+            shown(recording),
+            (archive, same, kept, shown(&lent[GUARDS..rest])),
+            (expected, true, true, shown(&papers)),
+        );
+        let written = if kept && same { rest } else { lent.len() };
+        lent[..written].fill(LENT_BYTE);
+        self.listing = lent;
     }
 }

@@ -1,7 +1,7 @@
 -- `night_cases::pieces::make` meets its contract. Assumes nothing.
-use Rattle.recording.proofs.NightLaws.{begun-real, real-night}
-use Rattle.recording.proofs.PieceLaws.{piece-answer}
-use Rattle.recording.specs.Pieces.{isNight}
+use Rattle.listing.proofs.NightLaws.{begun-real, real-night}
+use Rattle.listing.proofs.LoopLaws.{piece-answer}
+use Rattle.listing.specs.Pieces.{isNight}
 use Prim.Native.Nat.{ℕ, _+_, _-_, _≤_}
 use mathlib.Core.Bool.{true}
 use mathlib.Core.List.{List}
@@ -54,10 +54,10 @@ list-piece-requires : tie.Need-list-piece-requires Inv-loop μ-loop
 list-piece-requires c κs = search needs
 
 array-share-prefix-out : tie.Need-array-share-prefix-out Inv-loop μ-loop
-array-share-prefix-out c = piece-answer _ _ _ (c .before .before .before .before .before .before .loop .out) _ _ (c .before .before .before .before .before .before .loop .inv .4) (c .before .list-piece .ensures) .1
+array-share-prefix-out c = piece-answer _ _ _ (c .before .before .before .before .before .before .loop .out) _ _ (c .before .before .before .before .before .before .loop .inv .4) (c .before .list-piece .ensures .0, c .before .list-piece .ensures .1 .0) .1
 
 slice-aggregate-stands : tie.Need-slice-aggregate-stands Inv-loop μ-loop
-slice-aggregate-stands c = sym (length-take-le _ _ (piece-answer _ _ _ (c .before .before .before .before .before .before .before .loop .out) _ _ (c .before .before .before .before .before .before .before .loop .inv .4) (c .before .before .list-piece .ensures) .1))
+slice-aggregate-stands c = sym (length-take-le _ _ (piece-answer _ _ _ (c .before .before .before .before .before .before .before .loop .out) _ _ (c .before .before .before .before .before .before .before .loop .inv .4) (c .before .before .list-piece .ensures .0, c .before .before .list-piece .ensures .1 .0) .1))
 
 stands-requires : tie.Need-stands-requires Inv-loop μ-loop
 stands-requires c κs = c .before .before .before .before .before .before .before .loop .inv .3
@@ -66,7 +66,7 @@ returns : tie.Need-returns Inv-loop μ-loop
 returns c = search needs
 
 add-at : tie.Need-add-at Inv-loop μ-loop
-add-at c = omega (arith, printed _ _ _ (c .before .before .before .before .before .before .before .before .before .before .before .before .before .args .listing .now) (piece-answer _ _ _ (c .before .before .before .before .before .before .before .before .before .loop .out) _ _ (c .before .before .before .before .before .before .before .before .before .loop .inv .4) (c .before .before .before .before .list-piece .ensures) .1) (c .before .stands .ensures (not-false _ (c .if1 .left))))
+add-at c = omega (arith, printed _ _ _ (c .before .before .before .before .before .before .before .before .before .before .before .before .before .args .listing .now) (piece-answer _ _ _ (c .before .before .before .before .before .before .before .before .before .loop .out) _ _ (c .before .before .before .before .before .before .before .before .before .loop .inv .4) (c .before .before .before .before .list-piece .ensures .0, c .before .before .before .before .list-piece .ensures .1 .0) .1) (c .before .stands .ensures (not-false _ (c .if1 .left))))
 
 enum-told : tie.Need-enum-told Inv-loop μ-loop
 enum-told c = search needs
@@ -75,7 +75,7 @@ returns-2 : tie.Need-returns-2 Inv-loop μ-loop
 returns-2 c = search needs
 
 add-from : tie.Need-add-from Inv-loop μ-loop
-add-from c = omega (arith, used _ _ _ _ _ (c .before .before .before .before .before .before .before .before .before .before .next-end .ensures .0) (c .before .before .before .before .before .before .before .before .before .before .before .before .loop .inv .1) (piece-answer _ _ _ (c .before .before .before .before .before .before .before .before .before .before .before .before .loop .out) _ _ (c .before .before .before .before .before .before .before .before .before .before .before .before .loop .inv .4) (c .before .before .before .before .before .before .before .list-piece .ensures) .0), c .before .before .before .before .before .before .before .before .before .before .next-end .ensures .1)
+add-from c = omega (arith, used _ _ _ _ _ (c .before .before .before .before .before .before .before .before .before .before .next-end .ensures .0) (c .before .before .before .before .before .before .before .before .before .before .before .before .loop .inv .1) (piece-answer _ _ _ (c .before .before .before .before .before .before .before .before .before .before .before .before .loop .out) _ _ (c .before .before .before .before .before .before .before .before .before .before .before .before .loop .inv .4) (c .before .before .before .before .before .before .before .list-piece .ensures .0, c .before .before .before .before .before .before .before .list-piece .ensures .1 .0) .0), c .before .before .before .before .before .before .before .before .before .before .next-end .ensures .1)
 
 sub-left : tie.Need-sub-left Inv-loop μ-loop
 sub-left c = search needs
@@ -85,7 +85,7 @@ loop-less c = search needs
 
 loop-again : tie.Need-loop-again Inv-loop μ-loop
 loop-again c =
-    (search needs, used _ _ _ _ _ (c .before .before .before .before .before .before .before .before .before .before .before .next-end .ensures .0) (c .before .before .before .before .before .before .before .before .before .before .before .before .before .loop .inv .1) (piece-answer _ _ _ (c .before .before .before .before .before .before .before .before .before .before .before .before .before .loop .out) _ _ (c .before .before .before .before .before .before .before .before .before .before .before .before .before .loop .inv .4) (c .before .before .before .before .before .before .before .before .list-piece .ensures) .0), c .before .before .before .before .before .before .before .before .before .before .before .next-end .ensures .1, printed _ _ _ (c .before .before .before .before .before .before .before .before .before .before .before .before .before .before .before .before .before .args .listing .now) (piece-answer _ _ _ (c .before .before .before .before .before .before .before .before .before .before .before .before .before .loop .out) _ _ (c .before .before .before .before .before .before .before .before .before .before .before .before .before .loop .inv .4) (c .before .before .before .before .before .before .before .before .list-piece .ensures) .1) (c .before .before .before .before .before .stands .ensures (not-false _ (c .before .before .before .before .if1 .left))), piece-answer _ _ _ (c .before .before .before .before .before .before .before .before .before .before .before .before .before .loop .out) _ _ (c .before .before .before .before .before .before .before .before .before .before .before .before .before .loop .inv .4) (c .before .before .before .before .before .before .before .before .list-piece .ensures) .2)
+    (search needs, used _ _ _ _ _ (c .before .before .before .before .before .before .before .before .before .before .before .next-end .ensures .0) (c .before .before .before .before .before .before .before .before .before .before .before .before .before .loop .inv .1) (piece-answer _ _ _ (c .before .before .before .before .before .before .before .before .before .before .before .before .before .loop .out) _ _ (c .before .before .before .before .before .before .before .before .before .before .before .before .before .loop .inv .4) (c .before .before .before .before .before .before .before .before .list-piece .ensures .0, c .before .before .before .before .before .before .before .before .list-piece .ensures .1 .0) .0), c .before .before .before .before .before .before .before .before .before .before .before .next-end .ensures .1, printed _ _ _ (c .before .before .before .before .before .before .before .before .before .before .before .before .before .before .before .before .before .args .listing .now) (piece-answer _ _ _ (c .before .before .before .before .before .before .before .before .before .before .before .before .before .loop .out) _ _ (c .before .before .before .before .before .before .before .before .before .before .before .before .before .loop .inv .4) (c .before .before .before .before .before .before .before .before .list-piece .ensures .0, c .before .before .before .before .before .before .before .before .list-piece .ensures .1 .0) .1) (c .before .before .before .before .before .stands .ensures (not-false _ (c .before .before .before .before .if1 .left))), piece-answer _ _ _ (c .before .before .before .before .before .before .before .before .before .before .before .before .before .loop .out) _ _ (c .before .before .before .before .before .before .before .before .before .before .before .before .before .loop .inv .4) (c .before .before .before .before .before .before .before .before .list-piece .ensures .0, c .before .before .before .before .before .before .before .before .list-piece .ensures .1 .0) .2)
 
 returns-3 : tie.Need-returns-3 Inv-loop μ-loop
 returns-3 c = search needs

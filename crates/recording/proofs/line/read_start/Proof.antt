@@ -1,6 +1,7 @@
 -- `recording::line::read_start` meets its contract. Assumes nothing.
 use Rattle.recording.proofs.StartLaws.{opens}
 use native.Mathlib.Omega.{arith}
+use mathlib.Core.Path.{refl}
 use mathlib.Core.Logic.{⊎-elim, inl, inr}
 use borrow.Author.Needs.{needs}
 use Rattle.recording.proofs.line.read_start.Statement.{statement}
@@ -16,13 +17,13 @@ shared-slice-read-if1 : tie.Need-shared-slice-read-if1
 shared-slice-read-if1 c = search needs
 
 returns : tie.Need-returns
-returns c = search needs
+returns c = λ some. absurd (some refl)
 
 returns-2 : tie.Need-returns-2
-returns-2 c = search needs
+returns-2 c = λ some. absurd (some refl)
 
 returns-3 : tie.Need-returns-3
-returns-3 c = search needs
+returns-3 c = λ some. absurd (some refl)
 
 shared-slice-read-if4 : tie.Need-shared-slice-read-if4
 shared-slice-read-if4 c = search needs
@@ -31,17 +32,17 @@ add-if5 : tie.Need-add-if5
 add-if5 c = search needs
 
 returns-4 : tie.Need-returns-4
-returns-4 c = search needs
+returns-4 c = λ some. absurd (some refl)
 
-cast-t13 : tie.Need-cast-t13
-cast-t13 c = search needs
+cast-mark : tie.Need-cast-mark
+cast-mark c = search needs
 
-add-t6 : tie.Need-add-t6
-add-t6 c = search needs
+add-result : tie.Need-add-result
+add-result c = search needs
 
 returns-5 : tie.Need-returns-5
-returns-5 c =
-    opens _ (c .before .before .before .before .before .before .before .before .before .before .pre) (c .before .before .before .before .before .before .before .before .leading-digits .ensures) (c .before .before .before .before .before .before .if1 .left) (c .before .before .before .before .before .if2 .left) (omega (arith, c .before .before .before .if3 .left))
+returns-5 c = λ some.
+    opens _ (c .before .before .before .before .before .before .before .before .before .before .pre) (omega arith) (c .before .before .before .before .before .before .before .before .leading-digits .ensures) (c .before .before .before .before .before .before .if1 .left) (c .before .before .before .before .before .if2 .left) (omega (arith, c .before .before .before .if3 .left))
     (⊎-elim (λ w. inr (w .1 .left)) (λ w. inl (w .left)) (c .before .if4 .came))
 
 pub read-start-spec : {M : Type 1} → statement M
@@ -57,6 +58,6 @@ read-start-spec =
     shared-slice-read-if4
     add-if5
     returns-4
-    cast-t13
-    add-t6
+    cast-mark
+    add-result
     returns-5)

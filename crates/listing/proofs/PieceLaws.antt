@@ -1,0 +1,436 @@
+-- A listing in pieces: their steps, and that they make the listing. Assumes nothing.
+use mathlib.Core.Path.{_≡_, refl, sym, ap, _∙_, subst}
+use mathlib.Core.Logic.{_⊎_, inl, inr}
+use mathlib.Core.Bool.{Bool, true, false, _||_, and-eq-true-iff, true≢false}
+use mathlib.Core.List.{List, [], _++_, append-assoc, append-nil}
+use Prim.Native.Nat.{ℕ, zero, suc, _+_, _-_, _≤_, _<_}
+use native.Mathlib.Omega.{arith}
+use native.Mathlib.Decide.{decLe}
+use lib.Dec.{leb, ltb}
+use lib.ListN.{length, drop, length-append, length-drop}
+use lib.Seq.{drop-append-le, drop-drop}
+use borrow.Author.Tests.{leb-true, ltb-true, ltb-false, le-leb, lt-leb}
+use Rattle.slash.specs.declared.answer.Stop.{Stop}
+use Rattle.breaths.specs.declared.breath.Breath.{Breath}
+use Rattle.text.specs.Parts.{lengthBefore}
+use Rattle.text.specs.Lines.{refusedLine}
+use Rattle.text.proofs.FindLaws.{before-le}
+use Rattle.recording.specs.Reading.{nextOf}
+use Rattle.recording.specs.declared.line.Entry.{Entry}
+use Rattle.recording.specs.declared.reading.Next.{Next}
+use Rattle.recording.specs.declared.reading.Next.the-variants as Next
+use Rattle.recording.proofs.ReadingLaws.{Ready, StopAt, follows-breath, follows-stop, next-ready}
+use Rattle.listing.specs.Listing.{breathLine, allLine, withLine, listingFrom, listingOn}
+use Rattle.listing.specs.Pieces.{isNight, Listed, heldBack, stay, onward, isSure, pieceFrom, pieceOf, goesOn, restOf, MakesListing, Stops}
+use Rattle.listing.specs.declared.night.Night.{Night}
+use Rattle.listing.specs.declared.piece.End.{End}
+use Rattle.listing.specs.declared.piece.End.the-variants.{Open, Closed, Refused, NoNight}
+use Rattle.listing.proofs.NightLaws.{Real, night-real, line-suc}
+use Rattle.listing.proofs.ListingLaws.{follows-real, listing-more, listing-end, listing-stop, line-length, last-length}
+
+-- ---- which lines are sure
+
+pub sure-room : (bs : List ℕ) (last : Bool) (room : ℕ) → isSure bs last room ≡ true → 33 ≤ room
+unfolding isSure
+sure-room bs last room e = leb-true _ _ (and-eq-true-iff (leb 33 room) (last || (leb 33 (length bs) || ltb (lengthBefore 10 bs) (length bs))) .0 e .0)
+
+sure-ready : (bs : List ℕ) (room : ℕ) → isSure bs false room ≡ true → Ready bs
+unfolding isSure
+sure-ready bs room e = go (leb 33 (length bs)) refl (and-eq-true-iff (leb 33 room) (leb 33 (length bs) || ltb (lengthBefore 10 bs) (length bs)) .0 e .1)
+  where
+    go : (t : Bool) → leb 33 (length bs) ≡ t → (t || ltb (lengthBefore 10 bs) (length bs)) ≡ true → Ready bs
+    go true g h = inl (leb-true _ _ g)
+    go false g h = inr (ltb-true _ _ h)
+
+-- nothing that follows changes what comes next, where it is sure
+sure-next : (line : ℕ) (bs more : List ℕ) (last : Bool) (room : ℕ) → (last ≡ true → more ≡ []) → isSure bs last room ≡ true
+    → nextOf line (bs ++ more) ≡ nextOf line bs
+sure-next line bs more true room ends e = ap (λ (m : List ℕ). nextOf line (bs ++ m)) (ends refl) ∙ ap (nextOf line) (append-nil bs)
+sure-next line bs more false room ends e = next-ready line bs more (sure-ready bs room e)
+
+-- the test, case by case
+module _ (bs : List ℕ) (last : Bool) (room : ℕ) where
+  pub sure-no-room : room < 33 → false ≡ isSure bs last room
+  unfolding isSure
+  sure-no-room h = rw (lt-leb _ _ h) refl
+
+  module _ (h : 33 ≤ room) where
+    pub sure-last : last ≡ true → true ≡ isSure bs last room
+    unfolding isSure
+    sure-last e = rw (le-leb _ _ h, e) refl
+
+    module _ (e : last ≡ false) where
+      pub sure-long : 33 ≤ length bs → true ≡ isSure bs last room
+      unfolding isSure
+      sure-long l = rw (le-leb _ _ h, e, le-leb _ _ l) refl
+
+      pub sure-ended : length bs < 33 → (k : ℕ) → k ≡ lengthBefore 10 bs → ltb k (length bs) ≡ isSure bs last room
+      unfolding isSure
+      sure-ended l k g = rw (le-leb _ _ h, e, lt-leb _ _ l, g) refl
+
+-- Bytes that wait for others: there may be more, and neither 33 bytes nor a line feed are there.
+abbrev pub Waits : List ℕ → (last : Bool) → Type 0
+Waits bs last = (last ≡ false) × (length bs < 33) × (lengthBefore 10 bs ≡ length bs)
+
+-- a line that has room and isn't sure waits for bytes
+unsure : (bs : List ℕ) (last : Bool) (room : ℕ) → 33 ≤ room → isSure bs last room ≡ false → Waits bs last
+unsure bs true room h e = absurd (true≢false (sure-last bs true room h refl ∙ e))
+unsure bs false room h e = go (decLe 33 (length bs))
+  where
+    go : Dec (33 ≤ length bs) → Waits bs false
+    go (yes l) = absurd (true≢false (sure-long bs false room h refl l ∙ e))
+    go (no l) =
+        let none : length bs ≤ lengthBefore 10 bs = ltb-false _ _ (sure-ended bs false room h refl (omega arith) (lengthBefore 10 bs) refl ∙ e) in
+        (refl, omega arith, omega (arith, none, before-le 10 bs))
+
+-- ---- one step of a piece
+
+module _ (steps : ℕ) (night : Night) (bs : List ℕ) (last : Bool) (room : ℕ) where
+  -- a breath's line, and what is listed behind it
+  abbrev pub further : Entry → Listed
+  further entry =
+      onward (breathLine (night .breath) (entry .breath)) (entry .used)
+      (pieceFrom steps (withLine night (entry .breath)) (drop (entry .used) bs) last (room - length (breathLine (night .breath) (entry .breath))))
+
+  surely : Next → Listed
+  surely (Next.Breath entry) = further entry
+  surely Next.End = stay night (allLine (night .sums)) Closed
+  surely (Next.Stopped s) = stay night [] (Refused s)
+
+  pieces-step : (t : Bool) → isSure bs last room ≡ t → pieceFrom (suc steps) night bs last room ≡ elim t [ true ↦ surely (nextOf (night .line) bs) | false ↦ stay night [] Open ]
+  unfolding pieceFrom surely
+  pieces-step t e = ap (λ (y : Bool). elim y as (λ z. Listed) [ true ↦ surely (nextOf (night .line) bs) | false ↦ stay night [] Open ]) e
+
+  pub pieces-open : isSure bs last room ≡ false → pieceFrom (suc steps) night bs last room ≡ stay night [] Open
+  pieces-open f = pieces-step false f
+
+  module _ (sure : isSure bs last room ≡ true) where
+    surely-is : (x : Next) → nextOf (night .line) bs ≡ x → pieceFrom (suc steps) night bs last room ≡ surely x
+    surely-is x e = pieces-step true sure ∙ ap surely e
+
+    pub pieces-more : (entry : Entry) → nextOf (night .line) bs ≡ Next.Breath entry → pieceFrom (suc steps) night bs last room ≡ further entry
+    unfolding surely
+    pieces-more entry e = surely-is (Next.Breath entry) e
+
+    pub pieces-end : nextOf (night .line) bs ≡ Next.End → pieceFrom (suc steps) night bs last room ≡ stay night (allLine (night .sums)) Closed
+    unfolding surely
+    pieces-end e = surely-is Next.End e
+
+    pub pieces-stop : (s : Stop) → nextOf (night .line) bs ≡ Next.Stopped s → pieceFrom (suc steps) night bs last room ≡ stay night [] (Refused s)
+    unfolding surely
+    pieces-stop s e = surely-is (Next.Stopped s) e
+
+  -- what holds in each case holds of the piece
+  pub pieces-case : (P : Listed → Type 0) → (isSure bs last room ≡ false → P (stay night [] Open))
+      → (isSure bs last room ≡ true → (entry : Entry) → nextOf (night .line) bs ≡ Next.Breath entry → P (further entry))
+      → (isSure bs last room ≡ true → nextOf (night .line) bs ≡ Next.End → P (stay night (allLine (night .sums)) Closed))
+      → (isSure bs last room ≡ true → (s : Stop) → nextOf (night .line) bs ≡ Next.Stopped s → P (stay night [] (Refused s)))
+      → P (pieceFrom (suc steps) night bs last room)
+  pieces-case P opened more ended stopped = go (isSure bs last room) refl (nextOf (night .line) bs) refl
+    where
+      go : (t : Bool) → isSure bs last room ≡ t → (x : Next) → nextOf (night .line) bs ≡ x → P (pieceFrom (suc steps) night bs last room)
+      go false t x n = subst P (sym (pieces-open t)) (opened t)
+      go true t (Next.Breath entry) n = subst P (sym (pieces-more t entry n)) (more t entry n)
+      go true t Next.End n = subst P (sym (pieces-end t n)) (ended t n)
+      go true t (Next.Stopped s) n = subst P (sym (pieces-stop t s n)) (stopped t s n)
+
+pub piece-is : (night : Night) (bs : List ℕ) (last : Bool) (room : ℕ) → isNight night ≡ true
+    → pieceOf night bs last room ≡ pieceFrom (65538 - night .line) night bs last room
+unfolding pieceOf
+piece-is night bs last room e = rw (e) refl
+
+none-is : (night : Night) (bs : List ℕ) (last : Bool) (room : ℕ) → isNight night ≡ false → pieceOf night bs last room ≡ stay night [] NoNight
+unfolding pieceOf
+none-is night bs last room e = rw (e) refl
+
+-- what holds of every piece of a night, and where the night is none
+pub piece-case : (P : Listed → Type 0) (night : Night) (bs : List ℕ) (last : Bool) (room : ℕ)
+    → (isNight night ≡ true → P (pieceFrom (65538 - night .line) night bs last room)) → P (stay night [] NoNight)
+    → P (pieceOf night bs last room)
+piece-case P night bs last room real none = go (isNight night) refl
+  where
+    go : (t : Bool) → isNight night ≡ t → P (pieceOf night bs last room)
+    go true e = subst P (sym (piece-is night bs last room e)) (real e)
+    go false e = subst P (sym (none-is night bs last room e)) none
+
+-- ---- a piece that is refused
+
+-- It lists nothing, uses nothing, and its night is the one it began with.
+pub record Refusing (start : Night) (l : Listed) : Type 0 where
+  pub text : l .text ≡ []
+  pub used : l .used ≡ 0
+  pub night : l .night ≡ start
+
+held-not : (used : ℕ) (end : End) → 1 ≤ used → Stops (heldBack used end) → ⊥
+unfolding heldBack
+held-not zero end h e = absurd (omega arith)
+held-not (suc n) Open h e = e
+held-not (suc n) Closed h e = e
+held-not (suc n) (Refused stop) h e = e
+held-not (suc n) NoNight h e = e
+
+abbrev IfStops : Night → Listed → Type 0
+IfStops night l = Stops (l .end) → Refusing night l
+
+refusing-stay : (night : Night) (end : End) → IfStops night (stay night [] end)
+unfolding stay
+refusing-stay night end h = record { text = refl; used = refl; night = refl }
+
+closed-stay : (night : Night) (text : List ℕ) → IfStops night (stay night text Closed)
+unfolding stay
+closed-stay night text h = absurd h
+
+refusing-onward : (night : Night) (line : List ℕ) (used : ℕ) (l : Listed) → 1 ≤ used → IfStops night (onward line used l)
+unfolding onward
+refusing-onward night line used l some h = absurd (held-not used (l .end) some h)
+
+refusing : (steps : ℕ) (night : Night) (bs : List ℕ) (last : Bool) (room : ℕ) → IfStops night (pieceFrom steps night bs last room)
+unfolding pieceFrom
+refusing zero night bs last room = refusing-stay night Open
+refusing (suc steps) night bs last room =
+    pieces-case steps night bs last room (IfStops night)
+    (λ t. refusing-stay night Open)
+    (λ t entry n. further-refusing t entry n)
+    (λ t n. closed-stay night (allLine (night .sums)))
+    (λ t s n. refusing-stay night (Refused s))
+  where
+    further-refusing : isSure bs last room ≡ true → (entry : Entry) → nextOf (night .line) bs ≡ Next.Breath entry → IfStops night (further steps night bs last room entry)
+    further-refusing t entry n = refusing-onward night _ (entry .used) _ (omega (arith, follows-breath (night .line) bs entry n .1 .ended))
+
+pub piece-refusing : (night : Night) (bs : List ℕ) (last : Bool) (room : ℕ) → Stops (pieceOf night bs last room .end) → pieceOf night bs last room .text ≡ []
+piece-refusing night bs last room h =
+    piece-case (IfStops night) night bs last room (λ e. refusing (65538 - night .line) night bs last room) (refusing-stay night NoNight) h .text
+
+-- ---- the pieces make the listing
+
+open-rest : (night : Night) (bs : List ℕ) (steps : ℕ) → steps ≡ 65538 - night .line → listingFrom steps night bs ≡ goesOn Open night bs
+unfolding goesOn listingOn
+open-rest night bs steps e = ap (λ (k : ℕ). listingFrom k night bs) e
+
+refusing-rest : (night : Night) (l : Listed) (bs more : List ℕ) → Refusing night l → goesOn Open night (bs ++ more) ≡ l .text ++ goesOn Open (l .night) (drop (l .used) bs ++ more)
+refusing-rest night l bs more r = rw (r .text, r .used, r .night) refl
+
+-- what a piece goes on with is what its last step does: a stop that it holds back is the next piece's
+onward-rest : (x : List ℕ) (line : List ℕ) (used : ℕ) (l : Listed) (bs more : List ℕ) → x ≡ l .text ++ restOf l (drop used bs) more
+    → (Stops (l .end) → x ≡ l .text ++ goesOn Open (l .night) (drop (l .used) (drop used bs) ++ more))
+    → line ++ x ≡ onward line used l .text ++ restOf (onward line used l) bs more
+unfolding restOf onward heldBack
+onward-rest x line used l bs more e held =
+    ap (λ (u : List ℕ). line ++ u)
+    (go used (l .end) e held ∙ ap (λ (u : List ℕ). l .text ++ goesOn (heldBack used (l .end)) (l .night) (u ++ more)) (drop-drop (l .used) used bs))
+    ∙ sym (append-assoc line (l .text) (restOf (onward line used l) bs more))
+  where
+    left : List ℕ
+    left = drop (l .used) (drop used bs) ++ more
+
+    go : (n : ℕ) (end : End) → x ≡ l .text ++ goesOn end (l .night) left → (Stops end → x ≡ l .text ++ goesOn Open (l .night) left)
+        → x ≡ l .text ++ goesOn (heldBack n end) (l .night) left
+    go zero end e h = e
+    go (suc n) Open e h = e
+    go (suc n) Closed e h = e
+    go (suc n) (Refused stop) e h = h tt
+    go (suc n) NoNight e h = h tt
+
+module _ (more : List ℕ) (last : Bool) (ends : last ≡ true → more ≡ []) where
+  abbrev Goes : (bs : List ℕ) → List ℕ → Listed → Type 0
+  Goes bs text l = text ≡ l .text ++ restOf l bs more
+
+  goes-open : (night : Night) (bs text : List ℕ) → text ≡ goesOn Open night (bs ++ more) → Goes bs text (stay night [] Open)
+  unfolding stay restOf
+  goes-open night bs text e = e
+
+  goes-closed : (night : Night) (bs text : List ℕ) → Goes bs text (stay night text Closed)
+  unfolding stay restOf goesOn
+  goes-closed night bs text = sym (append-nil text)
+
+  goes-stopped : (night : Night) (bs text : List ℕ) (s : Stop) → text ≡ refusedLine (s .number) (s .place) → Goes bs text (stay night [] (Refused s))
+  unfolding stay restOf goesOn
+  goes-stopped night bs text s e = e
+
+  goes : (steps : ℕ) (night : Night) (bs : List ℕ) (room : ℕ) → Real night → night .line + steps ≡ 65538
+      → Goes bs (listingFrom steps night (bs ++ more)) (pieceFrom steps night bs last room)
+  goes zero night bs room r e = absurd (omega (arith, r .few))
+  goes (suc steps) night bs room r e =
+      pieces-case steps night bs last room (Goes bs (listingFrom (suc steps) night (bs ++ more)))
+      (λ t. goes-open night bs _ (open-rest night (bs ++ more) (suc steps) (omega (arith, e))))
+      (λ t entry n. further-goes t entry n
+      (goes steps (withLine night (entry .breath)) (drop (entry .used) bs) (room - length (breathLine (night .breath) (entry .breath)))
+      (follows-real night r bs entry n) (omega (arith, line-suc night (entry .breath), e))))
+      (λ t n. subst (λ (u : List ℕ). Goes bs u (stay night (allLine (night .sums)) Closed)) (sym (listing-end steps night (bs ++ more) (after t ∙ n))) (goes-closed night bs (allLine (night .sums))))
+      (λ t s n. goes-stopped night bs _ s (listing-stop steps night (bs ++ more) s (after t ∙ n)))
+    where
+      after : isSure bs last room ≡ true → nextOf (night .line) (bs ++ more) ≡ nextOf (night .line) bs
+      after t = sure-next (night .line) bs more last room ends t
+
+      further-goes : isSure bs last room ≡ true → (entry : Entry) → nextOf (night .line) bs ≡ Next.Breath entry
+          → Goes (drop (entry .used) bs) (listingFrom steps (withLine night (entry .breath)) (drop (entry .used) bs ++ more))
+          (pieceFrom steps (withLine night (entry .breath)) (drop (entry .used) bs) last (room - length (breathLine (night .breath) (entry .breath))))
+          → Goes bs (listingFrom (suc steps) night (bs ++ more)) (further steps night bs last room entry)
+      further-goes t entry n ih =
+          let line : List ℕ = breathLine (night .breath) (entry .breath) in
+          let behind : Night = withLine night (entry .breath) in
+          let rest : List ℕ = drop (entry .used) bs in
+          let l : Listed = pieceFrom steps behind rest last (room - length line) in
+          let number : steps ≡ 65538 - behind .line = omega (arith, line-suc night (entry .breath), e) in
+          let held : Stops (l .end) → listingFrom steps behind (rest ++ more) ≡ l .text ++ goesOn Open (l .night) (drop (l .used) rest ++ more) =
+          λ h. open-rest behind (rest ++ more) steps number ∙ refusing-rest behind l rest more (refusing steps behind rest last (room - length line) h)
+          in
+          listing-more steps night (bs ++ more) entry (after t ∙ n)
+          ∙ ap (λ (u : List ℕ). line ++ listingFrom steps behind u) (drop-append-le (entry .used) bs more (follows-breath (night .line) bs entry n .1 .within))
+          ∙ onward-rest (listingFrom steps behind (rest ++ more)) line (entry .used) l bs more ih held
+
+-- From a night on, the listing of some bytes and whatever follows them is the piece's text, and then what it goes on with: where the piece is
+-- open, the listing from its night of the bytes that it didn't use and whatever follows them; where it is refused, the line of the stop; else
+-- nothing. (Nothing follows the last bytes.)
+pub piece-listing : (night : Night) (bs more : List ℕ) (last : Bool) (room : ℕ) → isNight night ≡ true → (last ≡ true → more ≡ [])
+    → listingOn night (bs ++ more) ≡ pieceOf night bs last room .text ++ restOf (pieceOf night bs last room) bs more
+unfolding listingOn pieceOf
+piece-listing night bs more last room e ends =
+    let r : Real night = night-real night e in
+    rw (e) (goes more last ends (65538 - night .line) night bs room r (omega (arith, r .few)))
+
+pub makes-listing : (night : Night) (bs : List ℕ) (last : Bool) (room : ℕ) → MakesListing night bs last room
+unfolding MakesListing
+makes-listing night bs last room more e ends = piece-listing night bs more last room e ends
+
+-- ---- what holds of every piece
+
+-- An end of a recording: a stop is one of those that it can cause, at the line that comes next.
+abbrev pub StopIn : Night → End → Type 0
+StopIn night Open = Unit {0}
+StopIn night Closed = Unit {0}
+StopIn night (Refused stop) = StopAt (night .line) stop
+StopIn night NoNight = ⊥
+
+-- It uses no more bytes than there are, its text has room, and the night behind it and its end are those of a recording.
+pub record Sound (bs : List ℕ) (room : ℕ) (l : Listed) : Type 0 where
+  pub used : l .used ≤ length bs
+  pub fits : length (l .text) ≤ room
+  pub real : Real (l .night)
+  pub stops : StopIn (l .night) (l .end)
+
+sound-stay : (bs : List ℕ) (room : ℕ) (night : Night) (text : List ℕ) (end : End) → Real night → length text ≤ room → StopIn night end → Sound bs room (stay night text end)
+unfolding stay
+sound-stay bs room night text end r h s = record { used = omega arith; fits = h; real = r; stops = s }
+
+held-stops : (night : Night) (used : ℕ) (end : End) → StopIn night end → StopIn night (heldBack used end)
+unfolding heldBack
+held-stops night zero end s = s
+held-stops night (suc n) Open s = tt
+held-stops night (suc n) Closed s = tt
+held-stops night (suc n) (Refused stop) s = tt
+held-stops night (suc n) NoNight s = tt
+
+sound-onward : (bs : List ℕ) (room : ℕ) (line : List ℕ) (used : ℕ) (l : Listed) → used ≤ length bs → length line ≤ room
+    → Sound (drop used bs) (room - length line) l → Sound bs room (onward line used l)
+unfolding onward
+sound-onward bs room line used l u h s =
+    record {
+      used = omega (arith, s .used, length-drop used bs);
+      fits = omega (arith, s .fits, length-append line (l .text));
+      real = s .real;
+      stops = held-stops (l .night) used (l .end) (s .stops);
+    }
+
+sound : (steps : ℕ) (night : Night) (bs : List ℕ) (last : Bool) (room : ℕ) → Real night → Sound bs room (pieceFrom steps night bs last room)
+unfolding pieceFrom
+sound zero night bs last room r = sound-stay bs room night [] Open r (omega arith) tt
+sound (suc steps) night bs last room r =
+    pieces-case steps night bs last room (Sound bs room)
+    (λ t. sound-stay bs room night [] Open r (omega arith) tt)
+    (λ t entry n. further-sound t entry n
+    (sound steps (withLine night (entry .breath)) (drop (entry .used) bs) last (room - length (breathLine (night .breath) (entry .breath))) (follows-real night r bs entry n)))
+    (λ t n. sound-stay bs room night (allLine (night .sums)) Closed r (omega (arith, sure-room bs last room t, last-length (night .sums) (r .proper))) tt)
+    (λ t s n. sound-stay bs room night [] (Refused s) r (omega arith) (follows-stop (night .line) bs s n))
+  where
+    further-sound : isSure bs last room ≡ true → (entry : Entry) → nextOf (night .line) bs ≡ Next.Breath entry
+        → Sound (drop (entry .used) bs) (room - length (breathLine (night .breath) (entry .breath)))
+        (pieceFrom steps (withLine night (entry .breath)) (drop (entry .used) bs) last (room - length (breathLine (night .breath) (entry .breath))))
+        → Sound bs room (further steps night bs last room entry)
+    further-sound t entry n ih =
+        let line : List ℕ = breathLine (night .breath) (entry .breath) in
+        let few : length line ≤ room = omega (arith, sure-room bs last room t, line-length night r (entry .breath)) in
+        sound-onward bs room line (entry .used) _ (follows-breath (night .line) bs entry n .1 .within) few ih
+
+pub piece-sound : (night : Night) (bs : List ℕ) (last : Bool) (room : ℕ) → isNight night ≡ true → Sound bs room (pieceOf night bs last room)
+piece-sound night bs last room e =
+    subst (Sound bs room) (sym (piece-is night bs last room e)) (sound (65538 - night .line) night bs last room (night-real night e))
+
+-- ---- that a piece goes on
+
+-- no line number falls
+abbrev Later : Night → Listed → Type 0
+Later night l = night .line ≤ l .night .line
+
+later-stay : (night : Night) (text : List ℕ) (end : End) → Later night (stay night text end)
+unfolding stay
+later-stay night text end = omega arith
+
+later-onward : (night : Night) (line : List ℕ) (used : ℕ) (l : Listed) → Later night l → Later night (onward line used l)
+unfolding onward
+later-onward night line used l h = h
+
+later : (steps : ℕ) (night : Night) (bs : List ℕ) (last : Bool) (room : ℕ) → Later night (pieceFrom steps night bs last room)
+unfolding pieceFrom
+later zero night bs last room = later-stay night [] Open
+later (suc steps) night bs last room =
+    pieces-case steps night bs last room (Later night)
+    (λ t. later-stay night [] Open)
+    (λ t entry n. further-later entry
+    (later steps (withLine night (entry .breath)) (drop (entry .used) bs) last (room - length (breathLine (night .breath) (entry .breath)))))
+    (λ t n. later-stay night (allLine (night .sums)) Closed)
+    (λ t s n. later-stay night [] (Refused s))
+  where
+    further-later : (entry : Entry)
+        → Later (withLine night (entry .breath)) (pieceFrom steps (withLine night (entry .breath)) (drop (entry .used) bs) last (room - length (breathLine (night .breath) (entry .breath))))
+        → Later night (further steps night bs last room entry)
+    further-later entry ih = later-onward night _ (entry .used) _ (omega (arith, ih, line-suc night (entry .breath)))
+
+-- An open piece with room for a line listed a line, and used bytes; or it used none, and waits for bytes.
+abbrev pub GoesOn : (line : ℕ) (bs : List ℕ) (last : Bool) (used line′ : ℕ) → Type 0
+GoesOn line bs last used line′ = ((line < line′) × (1 ≤ used)) ⊎ ((used ≡ 0) × Waits bs last)
+
+abbrev IfOpen : (night : Night) (bs : List ℕ) (last : Bool) → Listed → Type 0
+IfOpen night bs last l = l .end ≡ Open → GoesOn (night .line) bs last (l .used) (l .night .line)
+
+-- an end that isn't open
+abbrev NotOpen : End → Type 0
+NotOpen Open = ⊥
+NotOpen Closed = Unit {0}
+NotOpen (Refused stop) = Unit {0}
+NotOpen NoNight = Unit {0}
+
+module _ (night : Night) (bs : List ℕ) (last : Bool) where
+  waits : Waits bs last → IfOpen night bs last (stay night [] Open)
+  unfolding stay
+  waits w o = inr (refl, w)
+
+  ends : (text : List ℕ) (end : End) → NotOpen end → IfOpen night bs last (stay night text end)
+  unfolding stay
+  ends text end f o = absurd (subst NotOpen o f)
+
+  more-onward : (line : List ℕ) (used : ℕ) (l : Listed) → 1 ≤ used → night .line < l .night .line → IfOpen night bs last (onward line used l)
+  unfolding onward
+  more-onward line used l some h o = inl (h, omega arith)
+
+goes-on : (steps : ℕ) (night : Night) (bs : List ℕ) (last : Bool) (room : ℕ) → 33 ≤ room → IfOpen night bs last (pieceFrom (suc steps) night bs last room)
+goes-on steps night bs last room h =
+    pieces-case steps night bs last room (IfOpen night bs last)
+    (λ t. waits night bs last (unsure bs last room h t))
+    (λ t entry n. further-on entry n)
+    (λ t n. ends night bs last (allLine (night .sums)) Closed tt)
+    (λ t s n. ends night bs last [] (Refused s) tt)
+  where
+    further-on : (entry : Entry) → nextOf (night .line) bs ≡ Next.Breath entry → IfOpen night bs last (further steps night bs last room entry)
+    further-on entry n =
+        let b : Breath = entry .breath in
+        let grows = later steps (withLine night b) (drop (entry .used) bs) last (room - length (breathLine (night .breath) b)) in
+        more-onward night bs last _ (entry .used) _ (omega (arith, follows-breath (night .line) bs entry n .1 .ended)) (omega (arith, grows, line-suc night b))
+
+pub piece-on : (night : Night) (bs : List ℕ) (last : Bool) (room : ℕ) → isNight night ≡ true → 33 ≤ room → IfOpen night bs last (pieceOf night bs last room)
+piece-on night bs last room e h =
+    let r : Real night = night-real night e in
+    let step : 65538 - night .line ≡ suc (65537 - night .line) = omega (arith, r .few) in
+    subst (IfOpen night bs last)
+    (sym (piece-is night bs last room e ∙ ap (λ (n : ℕ). pieceFrom n night bs last room) step))
+    (goes-on (65537 - night .line) night bs last room h)

@@ -1,0 +1,115 @@
+-- The whole of a recording in one piece, and what `list` answers. Assumes nothing.
+use mathlib.Core.Path.{_≡_, refl, sym, ap, _∙_}
+use mathlib.Core.Bool.{true}
+use mathlib.Core.List.{List, _++_}
+use Prim.Native.Nat.{ℕ, zero, suc, _+_, _-_, _*_, _≤_}
+use native.Mathlib.Omega.{arith}
+use lib.ListN.{length, drop}
+use Rattle.slash.specs.Answers.{Outcome, stop, done, _then_, checkOutcome}
+use Rattle.slash.specs.declared.answer.Stop.{Stop}
+use Rattle.slash.specs.declared.reading.Checked.{Checked}
+use Rattle.slash.specs.declared.reading.Checked.the-variants as Checked
+use Rattle.slash.proofs.AnswerLaws.{no-stop}
+use Rattle.breaths.specs.declared.breath.Breath.{Breath}
+use Rattle.text.specs.Stores.{atStart}
+use Rattle.recording.specs.Reading.{nextOf, checkFrom, recordingCheck}
+use Rattle.recording.specs.declared.reading.Next.{Next}
+use Rattle.recording.specs.declared.reading.Next.the-variants as Next
+use Rattle.recording.proofs.ReadingLaws.{check-more, check-stop}
+use Rattle.listing.specs.Listing.{breathLine, allLine, begun, withLine, listingFrom, listingOn, listingOf}
+use Rattle.listing.specs.Nights.{nightOutcome, lengthOf, listAfter, BestNight}
+use Rattle.listing.specs.Pieces.{Listed, stay, onward, isSure, pieceFrom, pieceOf, answerOf}
+use Rattle.listing.specs.declared.night.Night.{Night}
+use Rattle.listing.specs.declared.piece.End.the-variants.{Closed}
+use Rattle.listing.specs.declared.piece.Piece.{Piece}
+use Rattle.listing.proofs.NightLaws.{Real, real-night, begun-real, line-suc}
+use Rattle.listing.proofs.ListingLaws.{follows-real, listing-more, listing-end, breath-length, line-length, best-night}
+use Rattle.listing.proofs.PieceLaws.{sure-last, pieces-more, pieces-end, piece-is}
+use Rattle.listing.proofs.LoopLaws.{Answers}
+
+-- ---- the whole of a recording in one piece, where no line stops it
+
+stay-text : (night : Night) (text : List ℕ) → stay night text Closed .text ≡ text
+unfolding stay
+stay-text night text = refl
+
+onward-text : (line : List ℕ) (used : ℕ) (l : Listed) → onward line used l .text ≡ line ++ l .text
+unfolding onward
+onward-text line used l = refl
+
+-- where the next line has room, and so have those behind it
+whole-step : (steps : ℕ) (night : Night) (bs : List ℕ) (room most : ℕ) → Real night → 33 ≤ room
+    → ((b : Breath) → length (breathLine (night .breath) b) ≤ most)
+    → checkFrom (suc steps) (night .line) bs ≡ done tt
+    → ((n : Night) (rest : List ℕ) (left : ℕ) → Real n → n .line ≡ suc (night .line) → room ≤ left + most → checkFrom steps (n .line) rest ≡ done tt
+    → pieceFrom steps n rest true left .text ≡ listingFrom steps n rest)
+    → pieceFrom (suc steps) night bs true room .text ≡ listingFrom (suc steps) night bs
+whole-step steps night bs room most r h short good ih = go (nextOf (night .line) bs) refl
+  where
+    sure : isSure bs true room ≡ true
+    sure = sym (sure-last bs true room h refl)
+
+    go : (x : Next) → nextOf (night .line) bs ≡ x → pieceFrom (suc steps) night bs true room .text ≡ listingFrom (suc steps) night bs
+    go (Next.Breath entry) n =
+        let b : Breath = entry .breath in
+        let line : List ℕ = breathLine (night .breath) b in
+        let behind : Night = withLine night b in
+        let left : ℕ = room - length line in
+        let rest : List ℕ = drop (entry .used) bs in
+        let still : checkFrom steps (behind .line) rest ≡ done tt =
+        ap (λ (k : ℕ). checkFrom steps k rest) (line-suc night b) ∙ sym (check-more steps (night .line) bs entry n) ∙ good
+        in
+        ap (λ (l : Listed). l .text) (pieces-more steps night bs true room sure entry n)
+        ∙ onward-text line (entry .used) (pieceFrom steps behind rest true left)
+        ∙ ap (λ (u : List ℕ). line ++ u) (ih behind rest left (follows-real night r bs entry n) (line-suc night b) (omega (arith, short b)) still)
+        ∙ sym (listing-more steps night bs entry n)
+    go Next.End n =
+        ap (λ (l : Listed). l .text) (pieces-end steps night bs true room sure n)
+        ∙ stay-text night (allLine (night .sums))
+        ∙ sym (listing-end steps night bs n)
+    go (Next.Stopped s) n = absurd (no-stop (sym (check-stop steps (night .line) bs s n) ∙ good))
+
+-- 33 bytes for each line
+whole : (steps : ℕ) (night : Night) (bs : List ℕ) (room : ℕ) → Real night → night .line + steps ≡ 65538 → 33 * steps ≤ room
+    → checkFrom steps (night .line) bs ≡ done tt
+    → pieceFrom steps night bs true room .text ≡ listingFrom steps night bs
+whole zero night bs room r e h good = absurd (omega (arith, r .few))
+whole (suc steps) night bs room r e h good =
+    whole-step steps night bs room 33 r (omega arith) (line-length night r) good
+    (λ n rest left i number few still. whole steps n rest left i (omega arith) (omega arith) still)
+
+-- The array of `list` holds the last line's 33 bytes too, since the number of line 1 has one digit.
+whole-listing : (bs : List ℕ) → recordingCheck bs ≡ done tt → pieceOf begun bs true 2162719 .text ≡ listingOf bs
+unfolding listingOf listingOn recordingCheck
+whole-listing bs good =
+    ap (λ (l : Listed). l .text) (piece-is begun bs true 2162719 (real-night begun begun-real))
+    ∙ whole-step 65536 begun bs 2162719 29 begun-real (omega arith) (λ b. breath-length 0 1 b (omega arith)) good
+    (λ n rest left i number few still. whole 65536 n rest left i (omega arith) (omega arith) still)
+
+-- ---- the answers
+
+night-is : (bs : List ℕ) (o : Outcome (Unit {0})) → o ≡ recordingCheck bs → (o then λ _. done (listingOf bs)) ≡ nightOutcome bs
+unfolding nightOutcome
+night-is bs o e = ap (λ (p : Outcome (Unit {0})). p then λ _. done (listingOf bs)) e
+
+pub list-done : (bs o o′ : List ℕ) (p : Piece) (c : Checked) → checkOutcome c ≡ recordingCheck bs → c ≡ Checked.Good → length o ≡ 2162719
+    → (night : Night) → night ≡ begun → Answers (pieceOf night bs true (length o)) o o′ p
+    → (done (p .length) ≡ lengthOf (nightOutcome bs)) × ((o′ ≡ listAfter (nightOutcome bs) o) × BestNight bs)
+unfolding answerOf lengthOf listAfter
+list-done bs o o′ p c e g long night n a =
+    let good : done tt ≡ recordingCheck bs = ap checkOutcome (sym g) ∙ e in
+    let night-done : done (listingOf bs) ≡ nightOutcome bs = night-is bs (done tt) good in
+    let text : pieceOf night bs true (length o) .text ≡ listingOf bs =
+    ap (λ (m : ℕ). pieceOf night bs true m .text) long ∙ ap (λ (m : Night). pieceOf m bs true 2162719 .text) n ∙ whole-listing bs (sym good)
+    in (
+      ap done (ap (λ (q : Piece). q .length) (a .0) ∙ ap length text) ∙ ap lengthOf night-done,
+      (a .1 ∙ ap (λ (t : List ℕ). atStart t o) text ∙ ap (λ (x : Outcome (List ℕ)). listAfter x o) night-done, best-night bs),
+    )
+
+pub list-stopped : (bs o : List ℕ) (c : Checked) → checkOutcome c ≡ recordingCheck bs → (s : Stop) → c ≡ Checked.Stopped s
+    → (stop (s .number) (s .place) ≡ lengthOf (nightOutcome bs)) × ((o ≡ listAfter (nightOutcome bs) o) × BestNight bs)
+unfolding lengthOf listAfter
+list-stopped bs o c e s g =
+    let bad : stop (s .number) (s .place) ≡ recordingCheck bs = ap checkOutcome (sym g) ∙ e in
+    let night-stop : stop (s .number) (s .place) ≡ nightOutcome bs = night-is bs (stop (s .number) (s .place)) bad in
+    (ap lengthOf night-stop, (ap (λ (x : Outcome (List ℕ)). listAfter x o) night-stop, best-night bs))

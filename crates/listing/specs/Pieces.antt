@@ -1,0 +1,127 @@
+-- A listing made in pieces: what is listed of some bytes where others may follow them.
+use Prim.Native.Nat.{ℕ, zero, suc, _+_, _-_, _*_}
+use mathlib.Core.Path.{_≡_}
+use mathlib.Core.Bool.{Bool, true, false, _&&_, _||_}
+use mathlib.Core.List.{List, [], _++_}
+use lib.Dec.{eqb, leb, ltb}
+use lib.ListN.{length, take, drop}
+use Rattle.convergents.specs.Choice.{if_then_else_}
+use Rattle.breaths.specs.Breaths.{nightRatio, sumsOf, addSums, BestRatio, BestBreaths}
+use Rattle.breaths.specs.declared.breath.Breath.{Breath}
+use Rattle.breaths.specs.declared.breath.Sums.{Sums}
+use Rattle.text.specs.Parts.{lengthBefore}
+use Rattle.text.specs.Lines.{refusedLine}
+use Rattle.recording.specs.Reading.{nextOf, breathsOn}
+use Rattle.recording.specs.declared.reading.Next.the-variants as Next
+use Rattle.listing.specs.Listing.{breathLine, allLine, numbered, withLine, listingOn}
+use Rattle.listing.specs.declared.night.Night.{Night}
+use Rattle.listing.specs.declared.piece.End.{End}
+use Rattle.listing.specs.declared.piece.End.the-variants.{Open, Closed, Refused, NoNight}
+use Rattle.listing.specs.declared.piece.Piece.{Piece}
+
+-- A night of a recording: from line 1 to line 65,537; each line before it was a breath's, so that the next breath has the next line's number; each
+-- breath has a whole below 2^32 and, where it is summed, an in that doesn't exceed it.
+unfoldable pub isNight : Night → Bool
+isNight night =
+    (leb 1 (night .line) && leb (night .line) 65537)
+    && (eqb (night .breath) (night .line)
+    && (leb (night .sums .whole) ((night .line - 1) * 4294967295) && leb (night .sums .inspiration) (night .sums .whole)))
+
+-- The text that is listed, how many bytes it uses, the night behind it, and whether it is the end.
+pub record Listed : Type 0 where
+  pub text : List ℕ
+  pub used : ℕ
+  pub night : Night
+  pub end : End
+
+-- A stop behind bytes that a piece used is left to the next piece, and this one is open: a piece that is refused uses and lists
+-- nothing. (Behind used bytes the night is never none.)
+unfoldable pub heldBack : (used : ℕ) → End → End
+heldBack zero end = end
+heldBack (suc used) Open = Open
+heldBack (suc used) Closed = Closed
+heldBack (suc used) (Refused stop) = Open
+heldBack (suc used) NoNight = Open
+
+-- Nothing more is used; what is listed may be the last line.
+unfoldable pub stay : Night → List ℕ → End → Listed
+stay night text end = record { text = text; used = 0; night = night; end = end }
+
+-- A line that used so many bytes, and what is listed behind it.
+unfoldable pub onward : (line : List ℕ) (used : ℕ) → Listed → Listed
+onward line used l = record { text = line ++ l .text; used = used + l .used; night = l .night; end = heldBack used (l .end) }
+
+-- The next line is listed where it has room and is sure: no line of a listing has more than 33 bytes, and what stands behind a line feed
+-- (byte 10), or behind the first 33 bytes of a recording, doesn't change its first line. `last` says that nothing follows the bytes.
+unfoldable pub isSure : List ℕ → (last : Bool) (room : ℕ) → Bool
+isSure bs last room = leb 33 room && (last || (leb 33 (length bs) || ltb (lengthBefore 10 bs) (length bs)))
+
+-- What is listed of some bytes from a night on, in so many steps.
+unfoldable pub pieceFrom : (steps : ℕ) → Night → List ℕ → (last : Bool) (room : ℕ) → Listed
+pieceFrom zero night bs last room = stay night [] Open
+pieceFrom (suc steps) night bs last room =
+    elim (isSure bs last room) [
+      | false ↦ stay night [] Open
+      | true ↦ elim (nextOf (night .line) bs) [
+        | Next.Breath entry ↦ onward (breathLine (night .breath) (entry .breath)) (entry .used)
+            (pieceFrom steps (withLine night (entry .breath)) (drop (entry .used) bs) last (room - length (breathLine (night .breath) (entry .breath))))
+        | Next.End ↦ stay night (allLine (night .sums)) Closed
+        | Next.Stopped s ↦ stay night [] (Refused s)
+      ]
+    ]
+
+-- Where the night is none of a recording, nothing is listed.
+unfoldable pub pieceOf : Night → List ℕ → (last : Bool) (room : ℕ) → Listed
+pieceOf night bs last room = if isNight night then pieceFrom (65538 - night .line) night bs last room else stay night [] NoNight
+
+-- How a piece is answered: the text stands in the lent list, and its length is told.
+unfoldable pub answerOf : Listed → Piece
+answerOf l = record { used = l .used; length = length (l .text); night = l .night; end = l .end }
+
+-- An end that is a refusal: a stop, or a night that comes of no recording.
+abbrev pub Stops : End → Type 0
+Stops Open = ⊥
+Stops Closed = ⊥
+Stops (Refused stop) = Unit {0}
+Stops NoNight = Unit {0}
+
+-- ---- what pieces make
+
+-- What a listing goes on with behind a piece: where that is open, with the listing from its night of the bytes that it didn't use and
+-- whatever follows them; where it is refused, with the line of the stop; else with nothing.
+unfoldable pub goesOn : End → Night → List ℕ → List ℕ
+goesOn Open night bs = listingOn night bs
+goesOn Closed night bs = []
+goesOn (Refused stop) night bs = refusedLine (stop .number) (stop .place)
+goesOn NoNight night bs = []
+
+unfoldable pub restOf : Listed → (bs more : List ℕ) → List ℕ
+restOf l bs more = goesOn (l .end) (l .night) (drop (l .used) bs ++ more)
+
+-- Pieces make the listing: from a night on, that of some bytes and whatever follows them is the piece's text, and then what it goes on with.
+-- (Nothing follows the last bytes.)
+unfoldable pub MakesListing : Night → List ℕ → (last : Bool) (room : ℕ) → Type 0
+MakesListing night bs last room =
+    (more : List ℕ) → isNight night ≡ true → (last ≡ true → more ≡ [])
+    → listingOn night (bs ++ more) ≡ pieceOf night bs last room .text ++ restOf (pieceOf night bs last room) bs more
+
+-- ---- demand 3 of a piece
+
+-- The breaths that a piece lists: those of the bytes that it used.
+unfoldable pub breathsOf : Night → List ℕ → Listed → List Breath
+breathsOf night bs l = breathsOn (night .line) (take (l .used) bs)
+
+-- What stands behind their lines: `all` where the recording ends.
+unfoldable pub endText : Sums → End → List ℕ
+endText s Open = []
+endText s Closed = allLine s
+endText s (Refused stop) = []
+endText s NoNight = []
+
+-- A piece's text is the numbered lines of its breaths, and `all` at the end; the sums behind it are those before it and those of its breaths; and
+-- the word of each breath that isn't void, and of all, is best for its N and D.
+pub record BestPiece (night : Night) (bs : List ℕ) (l : Listed) : Type 0 where
+  pub lines : l .text ≡ numbered (night .breath) (breathsOf night bs l) ++ endText (l .night .sums) (l .end)
+  pub sums : l .night .sums ≡ addSums (night .sums) (sumsOf (breathsOf night bs l))
+  pub each : BestBreaths (breathsOf night bs l)
+  pub all : BestRatio (l .night .sums .inspiration) (l .night .sums .whole) (nightRatio (l .night .sums))

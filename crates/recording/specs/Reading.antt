@@ -1,0 +1,67 @@
+-- A recording line by line: what comes next, its breaths, and whether a line stops it.
+use Prim.Native.Nat.{ℕ, zero, suc, _-_}
+use mathlib.Core.List.{List, [], _∷_}
+use lib.Dec.{eqb, ltb}
+use lib.ListN.{drop}
+use Rattle.convergents.specs.Choice.{if_then_else_}
+use Rattle.slash.specs.Answers.{Outcome, stop, done}
+use Rattle.breaths.specs.declared.breath.Breath.{Breath}
+use Rattle.recording.specs.Lines.{readLine}
+use Rattle.recording.specs.declared.line.Line.{Line}
+use Rattle.recording.specs.declared.line.Line.the-variants as Line
+use Rattle.recording.specs.declared.reading.Next.{Next}
+use Rattle.recording.specs.declared.reading.Next.the-variants as Next
+
+-- ---- what comes next
+
+-- A stop at a line.
+unfoldable pub stopAt : (line number : ℕ) → Next
+stopAt line number = Next.Stopped (record { number = number; place = line })
+
+-- Where no bytes are left, the recording ends. Stop 12: no line at all.
+unfoldable pub closing : (line : ℕ) → Next
+closing line = if eqb line 1 then stopAt line 12 else Next.End
+
+-- What a line comes to: a breath, or a stop.
+unfoldable pub fromLine : (line : ℕ) → Line → Next
+fromLine line (Line.Read entry) = Next.Breath entry
+fromLine line (Line.Refused number) = stopAt line number
+
+-- What comes next, at a line, from the bytes not yet read. Stop 8: line 65,537 begins.
+unfoldable pub nextOf : (line : ℕ) → List ℕ → Next
+nextOf line [] = closing line
+nextOf line (b ∷ bs) = if ltb 65536 line then stopAt line 8 else fromLine line (readLine (b ∷ bs))
+
+-- ---- all that comes
+
+-- The breaths from a line on, up to the end or the first bad line, in so many steps: a step is a line.
+unfoldable pub breathsFrom : (steps line : ℕ) → List ℕ → List Breath
+breathsFrom zero line bs = []
+breathsFrom (suc steps) line bs =
+    elim (nextOf line bs) [
+      | Next.Breath entry ↦ entry .breath ∷ breathsFrom steps (suc line) (drop (entry .used) bs)
+      | Next.End ↦ []
+      | Next.Stopped s ↦ []
+    ]
+
+-- The first bad line stops, with its number and line and nothing more.
+unfoldable pub checkFrom : (steps line : ℕ) → List ℕ → Outcome (Unit {0})
+checkFrom zero line bs = done tt
+checkFrom (suc steps) line bs =
+    elim (nextOf line bs) [
+      | Next.Breath entry ↦ checkFrom steps (suc line) (drop (entry .used) bs)
+      | Next.End ↦ done tt
+      | Next.Stopped s ↦ stop (s .number) (s .place)
+    ]
+
+-- Line 65,537 ends every recording, so that the steps up to it are enough (proved: `breaths-steps`, `check-steps`).
+unfoldable pub breathsOn : (line : ℕ) → List ℕ → List Breath
+breathsOn line bs = breathsFrom (65538 - line) line bs
+
+-- The breaths of a recording.
+unfoldable pub breathsIn : List ℕ → List Breath
+breathsIn bs = breathsOn 1 bs
+
+-- What reading a recording through comes to.
+unfoldable pub recordingCheck : List ℕ → Outcome (Unit {0})
+recordingCheck bs = checkFrom 65537 1 bs

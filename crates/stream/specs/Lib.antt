@@ -1,0 +1,2 @@
+-- How a run over file descriptors ends.
+pub mod Runs

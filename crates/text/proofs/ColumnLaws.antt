@@ -1,0 +1,151 @@
+-- Columns: a word's fraction as it is read, and how long the columns are. Assumes nothing.
+use mathlib.Core.Path.{_≡_, refl, sym, ap, _∙_, subst}
+use mathlib.Core.Bool.{Bool, true, _&&_}
+use mathlib.Core.List.{List, [], _∷_, _++_}
+use Prim.Native.Nat.{ℕ, _+_, _*_, _/_, _%_, _^_, _≤_, _<_}
+use native.Mathlib.Omega.{arith}
+use native.Mathlib.Nat.{mod-lt, div-lt-iff-lt-mul, div-add-mod'}
+use lib.Dec.{leb, ltb}
+use lib.ListN.{length, length-append}
+use Rattle.convergents.specs.Pairs.{Pair, pair}
+use Rattle.slash.specs.Formats.{kFits}
+use Rattle.slash.specs.Words.{numberIn, partsOf, pairOf}
+use Rattle.slash.specs.declared.format.Format.{Format}
+use Rattle.slash.specs.declared.number.Parts.{Parts}
+use Rattle.slash.specs.declared.number.Value.{Value}
+use Rattle.text.specs.Numbers.{tab, slash, point, decimal, hexadecimal}
+use Rattle.breaths.specs.Breaths.{format, wordOf, fractionOf}
+use Rattle.text.specs.Columns.{thousandths, percentage, fractionText, shares, columns}
+use Rattle.text.specs.Lines.{isShown}
+use Rattle.breaths.specs.Shown.{Shown, ShownRatio}
+use Rattle.breaths.specs.declared.ratio.Ratio.{Ratio}
+use Rattle.breaths.specs.declared.ratio.Ratio.the-variants.{Void, Word}
+use Rattle.breaths.proofs.RatioLaws.{fraction-small}
+use Rattle.text.proofs.NumberLaws.{decimal-small, decimal-length, hexadecimal-length}
+
+-- ---- a fraction from its word
+
+-- the parts p of the value v that the word says
+module _ (w : ℕ) (f : Format) (fe : f ≡ format) (v : Value) (ve : v ≡ numberIn f w .value) (p : Parts) (pe : p ≡ partsOf v) where
+  pub fraction-parts : pair (p .numerator) (p .denominator) ≡ fractionOf w
+  unfolding fractionOf pairOf numberIn kFits
+  fraction-parts = rw (pe, ve, fe) refl
+
+  pub parts-small : (p .numerator < 2 ^ 32) × (p .denominator < 2 ^ 32)
+  parts-small =
+      let i : p .numerator ≡ fractionOf w .numerator = ap (λ (x : Pair). x .numerator) fraction-parts in
+      let j : p .denominator ≡ fractionOf w .denominator = ap (λ (x : Pair). x .denominator) fraction-parts in
+      (omega (arith, fraction-small w .0), omega (arith, fraction-small w .1))
+
+-- the percentage of a fraction from 0 to 1 is at most 100.0
+pub at-most-1000 : (n d : ℕ) → 1 ≤ d → n ≤ d → thousandths n d < 1001
+unfolding thousandths
+at-most-1000 n d p l = div-lt-iff-lt-mul {k = 2 * d} {x = 2000 * n + d} {y = 1001} (omega arith) .1 (omega arith)
+
+-- Thousandths are 1000 n/d to the nearest whole, half up: t less a half is at most 1000 n/d, which is below t and a half. (Each side times
+-- 2d, and d more.)
+pub nearest-half-up : (n d : ℕ) → 1 ≤ d → (2 * thousandths n d * d ≤ 2000 * n + d) × (2000 * n + d < 2 * (thousandths n d + 1) * d)
+unfolding thousandths
+nearest-half-up n d p =
+    let whole = div-add-mod' (2000 * n + d) (2 * d) in
+    let rest : (2000 * n + d) % (2 * d) < 2 * d = mod-lt (2000 * n + d) (omega arith) in
+    (omega (arith, whole), omega (arith, whole, rest))
+
+-- ---- the columns by their pieces
+
+pub percentage-digits : (t a : ℕ) → a ≡ 48 + t % 10 → decimal (t / 10) ++ point ++ (a ∷ []) ≡ percentage t
+unfolding percentage
+percentage-digits t a e = ap (λ (u : List ℕ). decimal (t / 10) ++ point ++ u) (decimal-small (t % 10) a (mod-lt t (omega arith)) e)
+
+module _ (w n d : ℕ) (e : pair n d ≡ fractionOf w) where
+  pub word-shares : (t : ℕ) → t ≡ thousandths n d → fractionText (pair n d) ++ tab ++ percentage t ≡ shares (Word w)
+  unfolding shares
+  word-shares t f =
+      ap (λ (u : ℕ). fractionText (pair n d) ++ tab ++ percentage u) f
+      ∙ ap (λ (x : Pair). fractionText x ++ tab ++ percentage (thousandths (x .numerator) (x .denominator))) e
+
+  module _ (s : Shown w) where
+    shown-numerator : n ≤ d
+    shown-numerator = omega (arith, ap (λ (x : Pair). x .numerator) e, ap (λ (x : Pair). x .denominator) e, s .proper)
+
+    shown-denominator : (1 ≤ d) × (d ≤ 32767)
+    shown-denominator =
+        let j : d ≡ fractionOf w .denominator = ap (λ (x : Pair). x .denominator) e in
+        (omega (arith, s .some), omega (arith, fraction-small w .1))
+
+    pub shown-parts : (n < 100000) × (d < 100000) × (1 ≤ d)
+    shown-parts = (omega (arith, shown-numerator, shown-denominator .1), omega (arith, shown-denominator .1), shown-denominator .0)
+
+    pub shown-percentage : (t : ℕ) → t ≡ thousandths n d → t < 1001
+    shown-percentage t f = omega (arith, at-most-1000 n d (shown-denominator .0) shown-numerator)
+
+module _ (r : Ratio) where
+  pub columns-are : (w : ℕ) → w ≡ wordOf r → hexadecimal 8 w ++ tab ++ shares r ≡ columns r
+  unfolding columns
+  columns-are w e = ap (λ (v : ℕ). hexadecimal 8 v ++ tab ++ shares r) e
+
+  pub shares-void : r ≡ Void → (45 ∷ 9 ∷ 45 ∷ []) ≡ shares r
+  unfolding shares
+  shares-void e = rw e refl
+
+  module _ (w : ℕ) (e : r ≡ Word w) where
+    pub shares-word : shares (Word w) ≡ shares r
+    shares-word = ap shares (sym e)
+
+    pub shown-word : ShownRatio r → Shown w
+    shown-word s = subst ShownRatio e s
+
+-- ---- which ratios are shown
+
+module _ (w n d : ℕ) (e : pair n d ≡ fractionOf w) where
+  pub word-shown : (ltb w (2 ^ 31) && (leb 1 d && leb n d)) ≡ isShown (Word w)
+  unfolding isShown
+  word-shown = ap (λ (x : Pair). ltb w (2 ^ 31) && (leb 1 (x .denominator) && leb (x .numerator) (x .denominator))) e
+
+module _ (r : Ratio) where
+  pub void-shown : r ≡ Void → true ≡ isShown r
+  unfolding isShown
+  void-shown e = rw e refl
+
+  pub ratio-shown : (w : ℕ) → r ≡ Word w → (t : Bool) → t ≡ isShown (Word w) → t ≡ isShown r
+  ratio-shown w e t h = h ∙ ap isShown (sym e)
+
+-- ---- how long the columns are
+
+percentage-length : (t : ℕ) → t < 1001 → length (percentage t) ≤ 5
+unfolding percentage
+percentage-length t h =
+    omega (arith, length-append (decimal (t / 10) ++ point) (decimal (t % 10)), length-append (decimal (t / 10)) point, decimal-length 2 (t / 10) (omega arith), decimal-length 0 (t % 10) (omega arith))
+
+fraction-length : (x : Pair) → x .numerator < 100000 → x .denominator < 100000 → length (fractionText x) ≤ 11
+unfolding fractionText
+fraction-length x n d =
+    omega (arith, length-append (decimal (x .numerator) ++ slash) (decimal (x .denominator)), length-append (decimal (x .numerator)) slash, decimal-length 4 (x .numerator) n, decimal-length 4 (x .denominator) d)
+
+word-length : (w : ℕ) → Shown w → length (shares (Word w)) ≤ 17
+unfolding shares
+word-length w s =
+    let x : Pair = fractionOf w in
+    let t : ℕ = thousandths (x .numerator) (x .denominator) in
+    omega (
+      arith,
+      length-append (fractionText x ++ tab) (percentage t),
+      length-append (fractionText x) tab,
+      fraction-length x (omega (arith, fraction-small w .0)) (omega (arith, fraction-small w .1)),
+      percentage-length t (at-most-1000 (x .numerator) (x .denominator) (s .some) (s .proper)),
+    )
+
+shares-length : (r : Ratio) → ShownRatio r → length (shares r) ≤ 17
+shares-length Void s = omega (arith, ap length (shares-void Void refl))
+shares-length (Word w) s = word-length w s
+
+pub columns-length : (r : Ratio) → ShownRatio r → length (columns r) ≤ 26
+unfolding columns
+columns-length r s =
+    omega (
+      arith,
+      length-append (hexadecimal 8 (wordOf r) ++ tab) (shares r),
+      length-append (hexadecimal 8 (wordOf r)) tab,
+      hexadecimal-length 8 (wordOf r),
+      shares-length r s,
+    )

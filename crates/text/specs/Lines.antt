@@ -1,0 +1,46 @@
+-- The lines of a listing.
+use Prim.Native.Nat.{ℕ, _^_}
+use mathlib.Core.Bool.{Bool, true, _&&_}
+use mathlib.Core.List.{List, [], _∷_, _++_}
+use lib.Dec.{leb, ltb}
+use Rattle.convergents.specs.Choice.{if_then_else_}
+use Rattle.convergents.specs.Pairs.{Pair}
+use Rattle.breaths.specs.Breaths.{fractionOf}
+use Rattle.breaths.specs.declared.ratio.Ratio.{Ratio}
+use Rattle.breaths.specs.declared.ratio.Ratio.the-variants.{Void, Word}
+use Rattle.text.specs.Numbers.{tab, lineFeed, decimal}
+use Rattle.text.specs.Columns.{columns}
+use Rattle.text.specs.declared.line.Name.{Name}
+use Rattle.text.specs.declared.line.Name.the-variants.{Number, All}
+
+-- What a line begins with: a breath's number, or `all`. (The bytes of `all`.)
+unfoldable pub nameText : Name → List ℕ
+nameText (Number n) = decimal n
+nameText All = 97 ∷ 108 ∷ 108 ∷ []
+
+-- A line: its name, and the columns of its ratio, tab-parted and ended by a line feed.
+unfoldable pub lineOf : Name → Ratio → List ℕ
+lineOf name r = nameText name ++ tab ++ columns r ++ lineFeed
+
+-- `refused`, the stop's number and the line. (The bytes of `refused` and of a tab.)
+unfoldable pub refusedLine : (stop line : ℕ) → List ℕ
+refusedLine stop line = (114 ∷ 101 ∷ 102 ∷ 117 ∷ 115 ∷ 101 ∷ 100 ∷ 9 ∷ []) ++ decimal stop ++ tab ++ decimal line ++ lineFeed
+
+-- ---- which lines are stored
+
+-- Breaths are numbered from 1 to 65,536.
+unfoldable pub isName : Name → Bool
+isName (Number n) = leb 1 n && leb n 65536
+isName All = true
+
+-- A ratio that a line shows: void, or a word with sign 0 (bit 31, the highest) from 0 to 1.
+unfoldable pub isShown : Ratio → Bool
+isShown Void = true
+isShown (Word w) =
+    let x : Pair = fractionOf w in
+    ltb w (2 ^ 31) && (leb 1 (x .denominator) && leb (x .numerator) (x .denominator))
+
+-- What is stored of a line where there is so much room: the line, where a listing can have it and its longest, of 33 bytes, has room; else
+-- nothing.
+unfoldable pub lineIn : (room : ℕ) → Name → Ratio → List ℕ
+lineIn room name r = if leb 33 room && (isName name && isShown r) then lineOf name r else []
