@@ -88,7 +88,12 @@ extern "C" {
 uint64_t slash_round(uint64_t kind, uint64_t k, uint64_t n, uint64_t d, uint64_t *word);
 
 /* Stores the word of left + right, left - right, left * right or left / right: the exact result,
- * rounded. Marked if an operand is or rounding changed the value. Stops 1, 2, 4, 5. */
+ * rounded. Marked if an operand is or rounding changed the value. Where the result is finite, the
+ * pair stored is the best for its absolute value N/D, as slash_round says. With finite operands a/b
+ * and c/d, signs apart and zero as 0/1, N over D is: for a sum or difference the size of
+ * a * d + b * c or a * d - b * c over b * d, plus where the two terms added have the same sign; for a
+ * product a * c over b * d; for a quotient a * d over b * c, or 0 over 1 where a finite value is
+ * divided by infinity. Stops 1, 2, 4, 5. */
 uint64_t slash_binary(uint64_t kind, uint64_t k, uint64_t code, uint64_t left, uint64_t right,
                       uint64_t *word);
 

@@ -2,6 +2,7 @@
 
 import random
 from functools import lru_cache
+from itertools import product
 
 import night
 import operations
@@ -136,10 +137,10 @@ NIGHT_LISTINGS = [
 def check_all():
     """Asserts everything below."""
     check_answers()
-    check_largest_parts()
+    check_held_pairs()
     check_descent()
     check_demand_3()
-    check_unary()
+    check_one_word()
     check_quotients()
     check_vectors()
     check_night()
@@ -154,14 +155,27 @@ def check_answers():
 # Rounding.
 
 
-def check_largest_parts():
-    """Asserts that no held pair has a part larger than the largest, and one has it."""
+def check_held_pairs():
+    """Asserts the held pairs by another count of bits, and their largest parts."""
     for form in searched_formats(1):
-        parts = range(4 * slash.largest_numerator(form))
-        pairs = [(r, s) for s in parts[1:] for r in parts if slash.holds(form, r, s)]
+        pairs = sorted(pairs_of(form))
+        # Parts up to twice as large as those of any held pair.
+        tried = product(range(2 ** (form.k + 1)), repeat=2)
+        assert pairs == [pair for pair in tried if slash.holds(form, *pair)], form
+        assert pairs == sorted(slash.held_pairs(form)), form
         assert max(r for r, s in pairs) == slash.largest_numerator(form)
         assert max(s for r, s in pairs) == slash.largest_denominator(form)
-        assert sorted(pairs + [slash.INFINITY_PAIR]) == sorted(slash.held_pairs(form))
+
+
+@lru_cache(maxsize=None)
+def pairs_of(form):
+    """Every held pair by another count of bits than slash.holds takes."""
+    parts = range(2**form.k)
+    pairs = [(r, s) for r in parts for s in parts[1:]]
+    if form.kind != FIXED:
+        # Both begin with 0b, and 0 has one digit.
+        pairs = [(r, s) for r, s in pairs if len(bin(r) + bin(s)) <= form.k + 4]
+    return pairs + [(1, 0)]
 
 
 def check_descent():
@@ -208,44 +222,33 @@ def check_demand_3():
         for _ in range(120):
             left, right = chosen(rng, words), chosen(rng, words)
             for code in operations.BINARY:
-                check_binary(form, code, left, right)
-            check_conversion(form, chosen(rng, forms), left)
+                result = operations.binary(form, code, left, right)
+                check_binary(form, code, left, right, result)
+            target = chosen(rng, forms)
+            result = operations.converted(form, target, left)
+            check_conversion(form, target, left, result)
 
 
 def finite_words(form):
-    """The words of the format that are finite, each with its value."""
-    read = [(word, value_or_none(form, word)) for word in range(2 ** slash.width(form))]
-    return [(word, v) for word, v in read if v and v.value_class in (FRACTION, ZERO)]
+    """The words of the format that are finite."""
+    return [word for word in range(2 ** slash.width(form)) if is_finite(form, word)]
 
 
-def value_or_none(form, word):
-    """The value of a word, or none for one that stops."""
+def is_finite(form, word):
+    """Whether a word's value is finite; a word that stops has none."""
     try:
-        return slash.read_word(form, word)
+        return slash.read_word(form, word).value_class in (FRACTION, ZERO)
     except slash.Stop:
-        return None
+        return False
 
 
-@lru_cache(maxsize=None)
-def pairs_of(form):
-    """Every held pair by another count of bits than slash.holds takes."""
-    parts = range(2**form.k)
-    pairs = [(r, s) for r in parts for s in parts[1:]]
-    if form.kind != FIXED:
-        # Both begin with 0b, and 0 has one digit.
-        pairs = [(r, s) for r, s in pairs if len(bin(r) + bin(s)) <= form.k + 4]
-    return pairs + [(1, 0)]
-
-
-def check_binary(form, code, left, right):
-    """Asserts demand 3, the sign and the mark of one binary result."""
-    (left_word, left_value), (right_word, right_value) = left, right
-    if code == 4 and right_value.value_class == ZERO:
+def check_binary(form, code, left_word, right_word, word):
+    """Asserts demand 3, the sign and the mark of the word that a binary code gave."""
+    left, right = slash.read_word(form, left_word), slash.read_word(form, right_word)
+    if code == 4 and right.value_class == ZERO:
         return
-    sign, n, d = paper_result(code, left_value, right_value)
-    mark = left_value.mark | right_value.mark
-    word = operations.binary(form, code, left_word, right_word)
-    check_best(form, word, sign, n, d, mark)
+    sign, n, d = paper_result(code, left, right)
+    check_best(form, word, sign, n, d, left.mark | right.mark)
 
 
 def paper_result(code, left, right):
@@ -263,10 +266,9 @@ def paper_result(code, left, right):
     return (sign if size else 0), size, b * d
 
 
-def check_conversion(form, target, source):
-    """Asserts demand 3, the sign and the mark of one conversion."""
-    source_word, value = source
-    word = operations.converted(form, target, source_word)
+def check_conversion(form, target, source_word, word):
+    """Asserts demand 3, the sign and the mark of the word that a conversion gave."""
+    value = slash.read_word(form, source_word)
     check_best(target, word, value.sign, value.numerator, value.denominator, value.mark)
 
 
@@ -285,38 +287,76 @@ def check_best(form, word, sign, n, d, mark):
 
 # Operations on one word.
 
+UNARY_CODES = range(1, 8)
 
-def check_unary():
-    """Asserts what floor, ceiling, mod 1 and the rest mean, by whole numbers."""
+
+def check_one_word():
+    """Asserts what each unary code and the common divisor mean, by whole numbers."""
     for form in small_formats(4, 6):
-        for word, value in finite_words(form):
-            n = -value.numerator if value.sign else value.numerator
-            check_floors(form, word, n, value.denominator)
-            check_divisor(form, word, value)
-            negated = operations.unary(form, 1, word)
-            assert operations.unary(form, 1, negated) == word
-            assert slash.read_word(form, negated) == value._replace(sign=1 - value.sign)
-            assert operations.unary(form, 2, word) == min(word, negated)
+        for word in finite_words(form):
+            for code in UNARY_CODES:
+                check_unary(form, code, word, operations.unary(form, code, word))
+            check_divisor(form, word)
 
 
-def check_floors(form, word, n, d):
-    """Asserts that floor and ceiling lie next to n/d, and mod 1 is what remains."""
-    below = whole_of(slash.read_word(form, operations.unary(form, 4, word)))
-    above = whole_of(slash.read_word(form, operations.unary(form, 5, word)))
-    assert below * d <= n < (below + 1) * d, (form, word)
-    assert (above - 1) * d < n <= above * d, (form, word)
-    mark = slash.read_word(form, word).mark
-    check_best(form, operations.unary(form, 6, word), 0, n - below * d, d, mark)
+def check_unary(form, code, operand_word, word):
+    """Asserts what a unary code means, of the word that it gave for a finite one."""
+    operand = slash.read_word(form, operand_word)
+    if code in (1, 2):
+        sign = 1 - operand.sign if code == 1 else 0
+        check_sign_bit(form, operand_word, word, sign)
+    elif code in (4, 5):
+        check_whole(code, operand, slash.read_word(form, word))
+    else:
+        sign, n, d = paper_unary_result(code, operand)
+        check_best(form, word, sign, n, d, operand.mark)
+
+
+def paper_unary_result(code, operand):
+    """The sign, N and D of a reciprocal, of what mod 1 leaves and of the value itself.
+
+    A zero's reciprocal is 1 over 0, which the pair 1/0 alone doesn't miss.
+    """
+    n, d = operand.numerator, operand.denominator
+    if code == 3:
+        return operand.sign, d, n
+    if code == 6:
+        return 0, signed_numerator(operand) % d, d
+    return operand.sign, n, d
+
+
+def check_sign_bit(form, operand_word, word, sign):
+    """Asserts that a word has this sign, and of the operand's bits changed no other."""
+    operand = slash.read_word(form, operand_word)
+    assert slash.read_word(form, word) == operand._replace(sign=sign), (form, word)
+    changed = bin(operand_word ^ word).count("1")
+    assert changed == int(sign != operand.sign), (form, operand_word, word)
+
+
+def check_whole(code, operand, result):
+    """Asserts that a floor or a ceiling lies next to the operand, and its mark."""
+    n, d, whole = signed_numerator(operand), operand.denominator, whole_of(result)
+    if code == 4:
+        assert whole * d <= n < (whole + 1) * d, (operand, result)
+    else:
+        assert (whole - 1) * d < n <= whole * d, (operand, result)
+    assert result.mark == operand.mark, (operand, result)
 
 
 def whole_of(value):
     """The whole number that a value is; a zero has sign 0."""
     assert value.denominator == 1 and (value.numerator or not value.sign)
+    return signed_numerator(value)
+
+
+def signed_numerator(value):
+    """The numerator of a finite value with its sign."""
     return -value.numerator if value.sign else value.numerator
 
 
-def check_divisor(form, word, value):
+def check_divisor(form, word):
     """Asserts that the common divisor is the largest of all common divisors."""
+    value = slash.read_word(form, word)
     n, d = value.numerator, value.denominator
     common = [t for t in range(1, d + 1) if n % t == 0 and d % t == 0]
     expected = max(common) if value.value_class == FRACTION else 0
@@ -326,7 +366,8 @@ def check_divisor(form, word, value):
 def check_quotients():
     """Asserts that partial quotients give back the value, and are at most 2k."""
     for form in small_formats(4, 6):
-        for word, value in finite_words(form):
+        for word in finite_words(form):
+            value = slash.read_word(form, word)
             quotients = operations.quotients_of(form, word)
             assert slash.truncated_value(quotients) == operations.size_of(value)
             assert len(quotients) <= 2 * form.k and min(quotients[1:], default=1) >= 1
@@ -337,22 +378,31 @@ def check_quotients():
 
 
 def check_vectors():
-    """Asserts that a vector form gives at each place what its words alone give."""
+    """Asserts of each place of a vector form's result what is asserted of a word's."""
     rng = random.Random(2)
-    for form in small_formats(3, 5):
-        words = [word for word, _ in finite_words(form)]
-        left, right = ([chosen(rng, words) for _ in range(9)] for _ in range(2))
-        out = [LENT] * 9
+    forms, places = small_formats(3, 5), range(9)
+    for form in forms:
+        words = finite_words(form)
+        left, right = ([chosen(rng, words) for _ in places] for _ in range(2))
         for code in operations.BINARY:
-            vectors.binary_each(*form, code, left, right, out)
-            for place in range(9):
-                request = "b %d %d %d %d %d" % (*form, code, left[place], right[place])
-                assert answer(request) == "%x" % out[place], (form, request)
-        for code in range(1, 8):
-            vectors.unary_each(*form, code, left, out)
-            for place in range(9):
-                request = "u %d %d %d %d" % (*form, code, left[place])
-                assert answer(request) == "%x" % out[place], (form, request)
+            out = stored(vectors.binary_each, *form, code, left, right)
+            for i in places:
+                check_binary(form, code, left[i], right[i], out[i])
+        for code in UNARY_CODES:
+            out = stored(vectors.unary_each, *form, code, left)
+            for i in places:
+                check_unary(form, code, left[i], out[i])
+        target = chosen(rng, forms)
+        out = stored(vectors.convert_each, *form, *target, left)
+        for i in places:
+            check_conversion(form, target, left[i], out[i])
+
+
+def stored(vector_form, *arguments):
+    """What a vector form stores in a lent vector as long as its last operand."""
+    out = [LENT] * len(arguments[-1])
+    vector_form(*arguments, out)
+    return out
 
 
 # A night.

@@ -10,10 +10,11 @@ use lib.IntN.{ℤ, pos, negℤ, _+ℤ_, _-ℤ_, +ℤ-comm, +ℤ-negℤ-cancel, n
 use borrow.Author.Tests.{le-leb, lt-leb, eq-eqb, ne-eqb}
 use Rattle.convergents.specs.Choice.{if_then_else_}
 use Rattle.slash.specs.Answers.{Outcome, stop, done, _then_, orZero, WhenDone}
-use Rattle.slash.specs.Formats.{known}
+use Rattle.slash.specs.Formats.{known, checkFormat}
 use Rattle.slash.specs.Signed.{signedOf}
-use Rattle.slash.specs.Words.{numberOf, numberIn, checkWord, readWord, isOverZero, writeNumber, BestWord, isNan}
-use Rattle.slash.proofs.AnswerLaws.{no-stop, some-not, if-case, when-checked}
+use Rattle.slash.specs.Words.{numberOf, numberIn, checkWord, isOverZero, writeNumber, ExactSize, BestOf, BestWord, isNan, partsOf}
+use Rattle.slash.proofs.AnswerLaws.{no-stop, then-stop, then-done, checked-stop, checked-made, some-not, if-case, when-checked}
+use Rattle.slash.proofs.FormatLaws.{format-good}
 use Rattle.slash.proofs.WordLaws.{checked-known, checked-number}
 use Rattle.slash.proofs.WriteLaws.{write-done, word-best}
 use Rattle.slash.specs.Canonical.{CanonicalWord}
@@ -25,9 +26,14 @@ use Rattle.slash.specs.declared.number.Value.the-variants.{Fraction, Infinity, 
 use Rattle.slash.specs.declared.number.Number.{Number}
 use Rattle.arithmetic.specs.Operands.{operandOf, signOf, differ, turned, Small}
 use Rattle.arithmetic.specs.Binary.{sumSize, sumSign, sumParts, sumOf, timesInfinity, productParts, productOf, dividedBy, quotientOf, exactOf, exactValue, isBinary, combined, binaryStops, binaryWord}
+use Rattle.vectors.specs.Each.{told}
+use Rattle.vectors.proofs.EachLaws.{told-checked}
+use Rattle.arithmetic.specs.Sizes.{binarySize}
+use Rattle.arithmetic.specs.Steps.{valueFrom}
 use Rattle.arithmetic.specs.declared.operand.Operand.{Operand}
 use Rattle.arithmetic.specs.declared.operand.Operand.the-variants.{Finite, Infinite}
-use Rattle.arithmetic.proofs.OperandLaws.{small-turned, checked-small}
+use Rattle.arithmetic.proofs.OperandLaws.{small-turned, checked-small, checked-operand, back, same-operand}
+use Rattle.arithmetic.proofs.SizeLaws.{size-exact}
 
 -- ---- the sum
 
@@ -240,12 +246,25 @@ pub over-exact : (code : ℕ) (v w : Value) → Small (operandOf v) → Small (o
 unfolding exactValue isOverZero
 over-exact code v w s t = over-either (isNan v || isNan w) NotANumber _ refl (over-operands code (operandOf v) (operandOf w) s t)
 
+-- ---- by the parts of the operands
+
+exact-back : (code : ℕ) (v w : Value) → Small (operandOf v) → Small (operandOf w) → exactValue code (back (partsOf v)) (back (partsOf w)) ≡ exactValue code v w
+unfolding exactValue
+exact-back code v w s t = rw (same-operand v s .0, same-operand v s .1, same-operand w t .0, same-operand w t .1) refl
+
+pub written-from : (f : Format) (code : ℕ) (s t m : Bool) (a b c d : ℕ) (v w e : Value) (o : Outcome ℕ) (r : ℕ) → v ≡ valueFrom s a b → w ≡ valueFrom t c d
+    → e ≡ exactValue code v w → o ≡ writeNumber f (record { value = e; approximate = m }) → r ≡ orZero o
+    → r ≡ orZero (writeNumber f (record { value = exactValue code (valueFrom s a b) (valueFrom t c d); approximate = m }))
+written-from f code s t m a b c d v w e o r ve we ee oe re = re ∙ rw (oe, ee, ve, we) refl
+
 -- ---- two words combined
 
-combined-best : (f : Format) (code : ℕ) (x y : Number) → known f ≡ true → Small (operandOf (x .value)) → Small (operandOf (y .value))
-    → BestWord f (exactValue code (x .value) (y .value)) (combined f code x y)
-unfolding combined
-combined-best f code x y h s t = word-best f h (x .approximate || y .approximate) (exactValue code (x .value) (y .value)) (over-exact code (x .value) (y .value) s t)
+combined-best : (f : Format) (code : ℕ) (x y : Number) → known f ≡ true → isBinary code ≡ true → Small (operandOf (x .value)) → Small (operandOf (y .value))
+    → BestOf f (binarySize code (x .value) (y .value)) (combined f code x y)
+unfolding combined BestWord
+combined-best f code x y h i s t =
+    subst (λ (z : ExactSize). BestOf f z (combined f code x y)) (size-exact code i (x .value) (y .value))
+    (word-best f h (x .approximate || y .approximate) (exactValue code (x .value) (y .value)) (over-exact code (x .value) (y .value) s t))
 
 combined-canonical : (f : Format) (code : ℕ) (x y : Number) → known f ≡ true → Small (operandOf (x .value)) → Small (operandOf (y .value))
     → CanonicalWord f (combined f code x y)
@@ -261,57 +280,95 @@ module _ (f : Format) (code left right : ℕ) where
   abbrev Y : Number
   Y = numberOf f right
 
-  abbrev Good : Type 0
-  Good = (checkWord f left ≡ done tt) × (checkWord f right ≡ done tt)
+  -- the code is one, and both words are good
+  pub record Good : Type 0 where
+    pub binary : isBinary code ≡ true
+    pub left-good : checkWord f left ≡ done tt
+    pub right-good : checkWord f right ≡ done tt
+
+  pub both-good : isBinary code ≡ true → checkWord f left ≡ done tt → checkWord f right ≡ done tt → Good
+  both-good i l r = record { binary = i; left-good = l; right-good = r }
 
   -- a call's stops first, and then its word
   pub binary-checked : (binaryStops f code left right then λ _. done (combined f code X Y)) ≡ binaryWord f code left right
   unfolding binaryWord
   binary-checked = refl
 
-  pub check-format : known f ≡ false → stop 1 0 ≡ binaryStops f code left right
+  check-words : known f ≡ true → isBinary code ≡ true → (checkWord f left then λ _. checkWord f right) ≡ binaryStops f code left right
   unfolding binaryStops
-  check-format h = rw h refl
+  check-words h i = rw (format-good f h, i) refl
+
+  -- ---- the stops of `binary`
+
+  pub stop-format : {n p : ℕ} → stop n p ≡ checkFormat f → stop n p ≡ binaryWord f code left right
+  unfolding binaryStops
+  stop-format e = checked-stop _ _ binary-checked (then-stop _ e)
 
   module _ (h : known f ≡ true) where
-    pub check-code : isBinary code ≡ false → stop 2 0 ≡ binaryStops f code left right
+    pub stop-code : isBinary code ≡ false → stop 2 0 ≡ binaryWord f code left right
     unfolding binaryStops
-    check-code i = rw (h, i) refl
+    stop-code i =
+        let e : stop 2 0 ≡ binaryStops f code left right = rw (format-good f h, i) refl in
+        checked-stop _ _ binary-checked e
 
-    pub check-words : isBinary code ≡ true → (checkWord f left then λ _. checkWord f right) ≡ binaryStops f code left right
-    unfolding binaryStops
-    check-words i = rw (h, i) refl
+    module _ (i : isBinary code ≡ true) where
+      pub stop-left : {n p : ℕ} → stop n p ≡ checkWord f left → stop n p ≡ binaryWord f code left right
+      stop-left e = checked-stop _ _ binary-checked (then-stop (λ _. checkWord f right) e ∙ check-words h i)
 
-  pub binary-good : done tt ≡ binaryStops f code left right → Good
+      pub stop-right : {n p : ℕ} → checkWord f left ≡ done tt → stop n p ≡ checkWord f right → stop n p ≡ binaryWord f code left right
+      stop-right g e = checked-stop _ _ binary-checked (then-done (λ _. checkWord f right) (sym g) e ∙ check-words h i)
+
+      -- a vector form stops as the check of its words does
+      pub binary-told : told (binaryWord f code left right) ≡ (checkWord f left then λ _. checkWord f right)
+      binary-told = told-checked _ _ _ binary-checked ∙ sym (check-words h i)
+
+  -- ---- what a call that isn't stopped has
+
+  binary-good : done tt ≡ binaryStops f code left right → Good
   unfolding binaryStops
-  binary-good e = go (known f) (isBinary code) (checkWord f left) refl e
+  binary-good e = go (checkFormat f) (isBinary code) (checkWord f left) refl refl e
     where
-      go : (k b : Bool) (o : Outcome (Unit {0})) → checkWord f left ≡ o → done tt ≡ (if k then if not b then stop 2 0 else (o then λ _. checkWord f right) else stop 1 0) → Good
-      go false b o i h = absurd (no-stop (sym h))
-      go true false o i h = absurd (no-stop (sym h))
-      go true true (stop n p) i h = absurd (no-stop (sym h))
-      go true true (done u) i h = (i, sym h)
+      go : (k : Outcome (Unit {0})) (b : Bool) (o : Outcome (Unit {0})) → isBinary code ≡ b → checkWord f left ≡ o
+          → done tt ≡ (k then λ _. if not b then stop 2 0 else (o then λ _. checkWord f right)) → Good
+      go (stop n p) b o i j h = absurd (no-stop (sym h))
+      go (done u) false o i j h = absurd (no-stop (sym h))
+      go (done u) true (stop n p) i j h = absurd (no-stop (sym h))
+      go (done u) true (done v) i j h = record { binary = i; left-good = j; right-good = sym h }
 
   abbrev pub BestHere : ℕ → Type 0
-  BestHere w = BestWord f (exactValue code (X .value) (Y .value)) w
+  BestHere w = BestOf f (binarySize code (X .value) (Y .value)) w
+
+  best-made : Good → BestHere (combined f code X Y)
+  best-made g =
+      combined-best f code X Y (checked-known f left (g .left-good)) (g .binary) (checked-small f left (g .left-good)) (checked-small f right (g .right-good))
+
+  -- ---- its word: that of the exact result v of two good words, whose values are x and y and whose marks are a and b
 
   module _ (good : Good) where
-    best-made : BestHere (combined f code X Y)
-    best-made = combined-best f code X Y (checked-known f left (good .0)) (checked-small f left (good .0)) (checked-small f right (good .1))
-
-    -- what is written of the exact result v of two good words, whose values are x and y and whose marks are a and b
-    pub good-combined : (x y v : Value) (a b : Bool) (o : Outcome ℕ) (r : ℕ) → x ≡ numberIn f left .value → y ≡ numberIn f right .value
-        → v ≡ exactValue code x y → a ≡ numberIn f left .approximate → b ≡ numberIn f right .approximate
-        → o ≡ writeNumber f (record { value = v; approximate = a || b }) → r ≡ orZero o → (r ≡ combined f code X Y) × BestHere r
+    written-combined : (x y v : Value) (a b : Bool) (r : ℕ) → x ≡ numberIn f left .value → y ≡ numberIn f right .value → v ≡ exactValue code x y
+        → a ≡ numberIn f left .approximate → b ≡ numberIn f right .approximate
+        → r ≡ orZero (writeNumber f (record { value = v; approximate = a || b })) → r ≡ combined f code X Y
     unfolding combined orZero
-    good-combined x y v a b o r xe ye ve ae be oe re =
-        let i : numberIn f left ≡ X = checked-number f left (good .0) in
-        let j : numberIn f right ≡ Y = checked-number f right (good .1) in
+    written-combined x y v a b r xe ye ve ae be re =
+        let i : numberIn f left ≡ X = checked-number f left (good .left-good) in
+        let j : numberIn f right ≡ Y = checked-number f right (good .right-good) in
         let e : v ≡ exactValue code (X .value) (Y .value) = rw (ve, xe, ye, i, j) refl in
         let m : (a || b) ≡ (X .approximate || Y .approximate) = rw (ae, be, i, j) refl in
-        let z : isOverZero v ≡ false = ap isOverZero e ∙ over-exact code (X .value) (Y .value) (checked-small f left (good .0)) (checked-small f right (good .1)) in
-        let w : r ≡ combined f code X Y = re ∙ ap orZero (oe ∙ sym (write-done f (record { value = v; approximate = a || b }) (checked-known f left (good .0)) z)) ∙ rw (e, m) refl in
-        (w, subst⁻¹ BestHere w best-made)
+        let z : isOverZero v ≡ false = ap isOverZero e ∙ over-exact code (X .value) (Y .value) (checked-small f left (good .left-good)) (checked-small f right (good .right-good)) in
+        re ∙ ap orZero (sym (write-done f (record { value = v; approximate = a || b }) (checked-known f left (good .left-good)) z)) ∙ rw (e, m) refl
+
+    -- the same by the parts p and q of the two values: what `combined_word` gives is what `binary` makes, demand 3 with it
+    pub binary-made : (x y : Value) (p q : Parts) (a b : Bool) (r : ℕ) → x ≡ numberIn f left .value → y ≡ numberIn f right .value
+        → p ≡ partsOf x → q ≡ partsOf y → a ≡ numberIn f left .approximate → b ≡ numberIn f right .approximate
+        → r ≡ orZero (writeNumber f (record { value = exactValue code (back p) (back q); approximate = a || b }))
+        → (done r ≡ binaryWord f code left right) × BestHere r
+    binary-made x y p q a b r xe ye pe qe ae be re =
+        let e : exactValue code (back p) (back q) ≡ exactValue code x y =
+        rw (pe, qe) (exact-back code x y (checked-operand f left (good .left-good) x xe) (checked-operand f right (good .right-good) y ye))
+        in
+        let w : r ≡ combined f code X Y = written-combined x y (exactValue code (back p) (back q)) a b r xe ye e ae be re in
+        let c = then-done (λ _. checkWord f right) (sym (good .left-good)) (sym (good .right-good)) ∙ check-words (checked-known f left (good .left-good)) (good .binary) in
+        (checked-made _ _ binary-checked c w, subst⁻¹ BestHere w (best-made good))
 
   -- what holds of the word that two good words are combined to holds of what `binary` makes
   when-binary : (P : ℕ → Type 0) → (Good → P (combined f code X Y)) → WhenDone (binaryWord f code left right) P
@@ -326,4 +383,4 @@ module _ (f : Format) (code left right : ℕ) where
   binary-canonical w e =
       subst (λ (o : Outcome ℕ). WhenDone o (λ v. CanonicalWord f v)) e
       (when-binary (λ v. CanonicalWord f v)
-      (λ good. combined-canonical f code X Y (checked-known f left (good .0)) (checked-small f left (good .0)) (checked-small f right (good .1))))
+      (λ g. combined-canonical f code X Y (checked-known f left (g .left-good)) (checked-small f left (g .left-good)) (checked-small f right (g .right-good))))

@@ -1,22 +1,25 @@
 -- Laws of comparison. Assumes nothing.
-use mathlib.Core.Path.{_≡_, refl, sym, ap, _∙_}
-use mathlib.Core.Bool.{Bool, true, false, _&&_, _||_}
+use mathlib.Core.Path.{_≡_, refl, sym, ap, _∙_, subst}
+use mathlib.Core.Bool.{Bool, true, false, _&&_, _||_, false≢true}
 use Prim.Native.Nat.{ℕ, _+_, _-_, _^_, _≤_, _<_}
 use native.Mathlib.Omega.{arith}
 use native.Mathlib.Decide.{ℕ-discrete, decLe}
 use lib.Dec.{eqb}
 use borrow.Author.Tests.{lt-ltb, le-ltb, eq-eqb, ne-eqb}
 use Rattle.slash.specs.Answers.{stop, done}
-use Rattle.slash.specs.Words.{numberIn, checkWord, readWord, isNan}
+use Rattle.slash.specs.Words.{numberIn, checkWord, readWord, isNan, partsOf}
 use Rattle.slash.proofs.WordLaws.{checked-number, checked-read}
-use Rattle.slash.proofs.AnswerLaws.{then-stop, then-done}
+use Rattle.slash.proofs.AnswerLaws.{then-stop, then-done, at-both}
 use Rattle.slash.specs.declared.format.Format.{Format}
+use Rattle.slash.specs.declared.number.Parts.{Parts}
 use Rattle.slash.specs.declared.number.Value.{Value}
+use Rattle.slash.specs.declared.number.Value.the-variants.{Fraction, Zero, Infinity, NotANumber}
 use Rattle.slash.specs.declared.number.Number.{Number}
-use Rattle.arithmetic.specs.Operands.{operandOf}
-use Rattle.arithmetic.specs.Steps.{onLine}
-use Rattle.arithmetic.specs.Comparison.{orderOf, signedOrder, outside, compareOf, compareValues, compareWords}
+use Rattle.arithmetic.specs.Operands.{operandOf, Small}
+use Rattle.arithmetic.specs.Steps.{onLine, isFraction}
+use Rattle.arithmetic.specs.Comparison.{orderNumber, orderOf, signedOrder, outside, compareOf, compareValues, compareWords}
 use Rattle.arithmetic.specs.declared.operand.Operand.{Operand}
+use Rattle.arithmetic.specs.declared.operand.Operand.the-variants.{Finite}
 use Rattle.arithmetic.specs.declared.ordering.Order.{Order}
 use Rattle.arithmetic.specs.declared.ordering.Order.the-variants.{Below, Equal, Above, Unordered}
 
@@ -125,6 +128,26 @@ module _ (v w : Value) (b : Bool) (be : b ≡ (isNan v || isNan w)) where
   unfolding compareValues
   compare-operands e x y xe ye r re = re ∙ rw (← be, e, xe, ye) refl
 
+-- two fractions
+fraction-is : (v : Value) → isFraction v ≡ true → v ≡ Fraction (partsOf v)
+unfolding isFraction
+fraction-is (Fraction p) e = refl
+fraction-is (Zero s) e = absurd (false≢true e)
+fraction-is (Infinity s) e = absurd (false≢true e)
+fraction-is NotANumber e = absurd (false≢true e)
+
+module _ (v : Value) (e : isFraction v ≡ true) (p : Parts) (pe : p ≡ partsOf v) where
+  pub fraction-parts : v ≡ Fraction p
+  fraction-parts = fraction-is v e ∙ ap Fraction (sym pe)
+
+  pub fraction-small : Small (operandOf v) → Small (Finite p)
+  unfolding operandOf
+  fraction-small s = subst (λ (u : Value). Small (operandOf u)) fraction-parts s
+
+pub compare-fractions : (v w : Value) (p q : Parts) → v ≡ Fraction p → w ≡ Fraction q → (r : Order) → r ≡ compareOf (Finite p) (Finite q) → r ≡ compareValues v w
+unfolding compareValues isNan operandOf
+compare-fractions v w p q ve we r re = at-both compareValues ve we re
+
 -- the answers of `compare`
 module _ (f : Format) (left right : ℕ) where
   pub compare-left : {n p : ℕ} → stop n p ≡ readWord f left → stop n p ≡ compareWords f left right
@@ -138,7 +161,7 @@ module _ (f : Format) (left right : ℕ) where
 
 -- two good words, whose values are v and w
 pub compare-both : (f : Format) (left right : ℕ) → checkWord f left ≡ done tt → checkWord f right ≡ done tt → (v w : Value) → v ≡ numberIn f left .value
-    → w ≡ numberIn f right .value → (o : Order) → o ≡ compareValues v w → done o ≡ compareWords f left right
+    → w ≡ numberIn f right .value → (o : Order) → o ≡ compareValues v w → done (orderNumber o) ≡ compareWords f left right
 unfolding compareWords
 compare-both f left right c d v w ve we o e =
-    then-done _ (sym (checked-read f left c)) (then-done _ (sym (checked-read f right d)) (ap done (e ∙ rw (ve, we, checked-number f left c, checked-number f right d) refl)))
+    then-done _ (sym (checked-read f left c)) (then-done _ (sym (checked-read f right d)) (ap (λ (x : Order). done (orderNumber x)) (e ∙ rw (ve, we, checked-number f left c, checked-number f right d) refl)))

@@ -5,7 +5,7 @@ use Rattle.convergents.specs.Pairs.{differs}
 use Rattle.convergents.specs.Convergents.{euclid, quotients, recurrence, convergents}
 use Rattle.convergents.specs.Rounding.{held, lastHeld, round}
 use Rattle.slash.specs.Bits.{leastFrom, leastPower, bitCount, bits, bit, bitOf, fields}
-use Rattle.slash.specs.Formats.{kFits, known, slashBits, widthOf, holds}
+use Rattle.slash.specs.Formats.{kFits, known, checkFormat, slashBits, widthOf, holds}
 use Rattle.slash.specs.Rounding.{roundRatio}
 use Rattle.slash.specs.Words.{fixedValue, fixedNumber, numberOf, isAbove, checkWord, readWord, fixedWord, floatingWord, floatingPair, pairWord, wordFor, isOverZero, writeNumber, isNan}
 use Rattle.arithmetic.specs.Operands.{operandOf}
@@ -13,5 +13,5 @@ use Rattle.arithmetic.specs.Binary.{sumSize, sumSign, sumParts, sumOf, e
 use Rattle.arithmetic.specs.Edges.{edges, isRounded, isWord, agrees, allAgree}
 
 pub edges-hold : allAgree edges ≡ true
-unfolding edges isRounded isWord agrees allAgree roundRatio writeNumber wordFor isOverZero round lastHeld held convergents recurrence quotients euclid differs holds kFits known slashBits leastPower leastFrom bitCount pairWord fixedWord floatingPair floatingWord fields bitOf binaryWord binaryStops combined isBinary exactValue exactOf sumOf sumParts sumSize sumSign operandOf isNan readWord checkWord isAbove widthOf numberOf fixedNumber fixedValue bits bit
+unfolding edges isRounded isWord agrees allAgree roundRatio writeNumber wordFor isOverZero round lastHeld held convergents recurrence quotients euclid differs holds kFits known checkFormat slashBits leastPower leastFrom bitCount pairWord fixedWord floatingPair floatingWord fields bitOf binaryWord binaryStops combined isBinary exactValue exactOf sumOf sumParts sumSize sumSign operandOf isNan readWord checkWord isAbove widthOf numberOf fixedNumber fixedValue bits bit
 edges-hold = refl

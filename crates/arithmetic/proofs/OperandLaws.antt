@@ -1,12 +1,13 @@
 -- Laws of operands: what a word says is small. Assumes nothing.
-use mathlib.Core.Path.{_≡_, sym, ap, _∙_, subst}
-use mathlib.Core.Bool.{true}
+use mathlib.Core.Path.{_≡_, refl, sym, ap, _∙_, subst, subst⁻¹}
+use mathlib.Core.Bool.{Bool, true}
+use borrow.Author.Tests.{eq-eqb, ne-eqb}
 use Prim.Native.Nat.{ℕ, _*_, _^_, _≤_, _<_}
 use native.Mathlib.Omega.{arith}
 use native.Mathlib.Nat.{mul-le-mul}
 use Rattle.slash.specs.Answers.{done}
 use Rattle.slash.specs.Formats.{known}
-use Rattle.slash.specs.Words.{numberOf, numberIn, checkWord, readWord}
+use Rattle.slash.specs.Words.{numberOf, numberIn, checkWord, readWord, isNan, partsOf}
 use Rattle.slash.specs.Canonical.{HeldValue}
 use Rattle.slash.proofs.WordLaws.{checked-number, checked-read}
 use Rattle.slash.proofs.Canonical.{held-small, read-known, read-held}
@@ -16,6 +17,7 @@ use Rattle.slash.specs.declared.number.Value.{Value}
 use Rattle.slash.specs.declared.number.Value.the-variants.{Fraction, Zero, Infinity, NotANumber}
 use Rattle.slash.specs.declared.number.Number.{Number}
 use Rattle.arithmetic.specs.Operands.{operandOf, turned, Small}
+use Rattle.arithmetic.specs.Steps.{valueFrom}
 use Rattle.arithmetic.specs.declared.operand.Operand.{Operand}
 use Rattle.arithmetic.specs.declared.operand.Operand.the-variants.{Finite, Infinite}
 
@@ -71,3 +73,32 @@ checked-small f w c = read-small f w _ (checked-read f w c)
 pub checked-operand : (f : Format) (w : ℕ) → checkWord f w ≡ done tt → (v : Value) → v ≡ numberIn f w .value → Small (operandOf v)
 checked-operand f w c v e =
     subst (λ (u : Value). Small (operandOf u)) (sym (e ∙ ap (λ (x : Number). x .value) (checked-number f w c))) (checked-small f w c)
+
+-- ---- a value from its parts
+
+module _ (s : Bool) (n d : ℕ) where
+  pub from-nan : d ≡ 0 → n ≡ 0 → NotANumber ≡ valueFrom s n d
+  unfolding valueFrom
+  from-nan e z = rw (eq-eqb _ _ e, eq-eqb _ _ z) refl
+
+  pub from-infinity : d ≡ 0 → (n ≡ 0 → ⊥) → Infinity s ≡ valueFrom s n d
+  unfolding valueFrom
+  from-infinity e z = rw (eq-eqb _ _ e, ne-eqb _ _ z) refl
+
+  pub from-fraction : (d ≡ 0 → ⊥) → Fraction (record { negative = s; numerator = n; denominator = d }) ≡ valueFrom s n d
+  unfolding valueFrom
+  from-fraction e = rw (ne-eqb _ _ e) refl
+
+abbrev pub back : Parts → Value
+back p = valueFrom (p .negative) (p .numerator) (p .denominator)
+
+-- it is the same operand, and not-a-number where that was
+pub same-operand : (v : Value) → Small (operandOf v) → (operandOf (back (partsOf v)) ≡ operandOf v) × (isNan (back (partsOf v)) ≡ isNan v)
+unfolding operandOf Small valueFrom isNan
+same-operand (Fraction p) s = let n : p .denominator ≡ 0 → ⊥ = λ e. omega (arith, s .some-denominator) in (rw (ne-eqb _ _ n) refl, rw (ne-eqb _ _ n) refl)
+same-operand (Zero s) t = (refl, refl)
+same-operand (Infinity s) t = (refl, refl)
+same-operand NotANumber t = (refl, refl)
+
+pub small-back : (v : Value) → Small (operandOf v) → (p : Parts) → p ≡ partsOf v → Small (operandOf (back p))
+small-back v s p e = subst⁻¹ (λ (q : Parts). Small (operandOf (back q))) e (subst⁻¹ Small (same-operand v s .0) s)

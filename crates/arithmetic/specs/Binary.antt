@@ -86,8 +86,7 @@ exactOf code x y =
     if eqb code 3 then productOf (differ (signOf x) (signOf y)) x y else
     quotientOf (differ (signOf x) (signOf y)) x y
 
--- The exact result of two values: any not-a-number operand gives one. A fraction's parts are demand 3's N and D; finite by infinity is
--- zero, 0 over 1.
+-- The exact result of two values: any not-a-number operand gives one. (Its size is demand 3's N over D, which stands apart in Sizes: `size-exact`.)
 unfoldable pub exactValue : ℕ → Value → Value → Value
 exactValue code v w = if isNan v || isNan w then NotANumber else exactOf code (operandOf v) (operandOf w)
 

@@ -15,9 +15,16 @@ use Rattle.arithmetic.specs.declared.ordering.Order.the-variants.{Below,
 use Rattle.arithmetic.specs.declared.operand.Operand.{Operand}
 use Rattle.arithmetic.specs.declared.operand.Operand.the-variants.{Finite, Infinite}
 
--- The outcome that an answer stands for.
-abbrev pub comparisonOutcome : Comparison → Outcome Order
-comparisonOutcome (Comparison.Done o) = done o
+-- The number of each order: 0 below, 1 equal, 2 above, 3 unordered.
+unfoldable pub orderNumber : Order → ℕ
+orderNumber Below = 0
+orderNumber Equal = 1
+orderNumber Above = 2
+orderNumber Unordered = 3
+
+-- The outcome that an answer stands for: a stop, or the order's number.
+abbrev pub comparisonOutcome : Comparison → Outcome ℕ
+comparisonOutcome (Comparison.Done o) = done (orderNumber o)
 comparisonOutcome (Comparison.Stopped s) = stop (s .number) (s .place)
 
 -- How two whole numbers stand.
@@ -48,8 +55,8 @@ unfoldable pub compareValues : Value → Value → Order
 compareValues v w = if isNan v || isNan w then Unordered else compareOf (operandOf v) (operandOf w)
 
 -- Stops 1, 4 and 5 as reading has them, the left word's before the right's.
-unfoldable pub compareWords : Format → (left right : ℕ) → Outcome Order
+unfoldable pub compareWords : Format → (left right : ℕ) → Outcome ℕ
 compareWords f left right =
     readWord f left then λ x.
     readWord f right then λ y.
-    done (compareValues (x .value) (y .value))
+    done (orderNumber (compareValues (x .value) (y .value)))

@@ -1,21 +1,24 @@
 // The four binary operations.
 ghost use mathlib.Core.Path.{_≡_};
 ghost use Prim.Native.Nat.{_<_, _^_};
-ghost use Rattle.slash.specs.Answers.{outcome, checkOutcome, done, orZero, WhenDone};
+ghost use Rattle.slash.specs.Answers.{writtenOutcome, orZero, WhenDone};
 ghost use Rattle.slash.specs.Formats.{formatOf};
-ghost use Rattle.slash.specs.Words.{BestWord, numberOf, checkWord};
+ghost use Rattle.slash.specs.Words.{BestOf, numberOf, writeNumber};
 ghost use Rattle.arithmetic.specs.Operands.{Small, operandOf, turned};
-ghost use Rattle.arithmetic.specs.Binary.{sumSize, sumSign, sumParts, sumOf, timesInfinity, productParts, productOf, dividedBy, quotientOf, exactOf, exactValue, isBinary, combined, binaryStops, binaryWord};
+ghost use Rattle.arithmetic.specs.Steps.{valueFrom};
+ghost use Rattle.arithmetic.specs.Sizes.{binarySize};
+ghost use Rattle.arithmetic.specs.Binary.{sumSize, sumSign, sumParts, sumOf, timesInfinity, productParts, productOf, dividedBy, quotientOf, exactOf, exactValue, isBinary, binaryWord};
 use crate::operand::Operand;
 use crate::operand::as_operand;
 use crate::operand::sign;
-use slash::Answer;
 use slash::Checked;
 use slash::Format;
 use slash::Number;
 use slash::Parts;
 use slash::Stop;
+use slash::Told;
 use slash::Value;
+use slash::Written;
 
 // The codes of the operations.
 const ADD: u64 = 1;
@@ -205,61 +208,88 @@ pub fn is_binary(code: u64) -> bool
     (ADD <= code) & (code <= DIVIDE)
 }
 
-// What two good words say, combined and written, in numbers that stay in registers.
-fn combined_word(kind: u64, k: u64, code: u64, left: u64, right: u64) -> u64
-    requires { ⌜ (checkWord (formatOf kind k) left ≡ done tt) × (checkWord (formatOf kind k) right ≡ done tt) ⌝ }
-    ensures written { λ r. ⌜ r ≡ combined (formatOf kind k) code (numberOf (formatOf kind k) left) (numberOf (formatOf kind k) right) ⌝ }
-    ensures best { λ r. ⌜ BestWord (formatOf kind k) (exactValue code (numberOf (formatOf kind k) left .value) (numberOf (formatOf kind k) right .value)) r ⌝ }
+// The value of parts, as `slash::parts_of` gives them; zero is the fraction 0/1.
+fn value_from(s: bool, n: u64, d: u64) -> Value
+    ensures { λ r. ⌜ r ≡ valueFrom s n d ⌝ }
 {
-    let f = Format { kind: kind, k: k };
-    let v = slash::value(f, left);
-    let w = slash::value(f, right);
-    let exact = exact_value(code, v, w);
-    let marked = slash::is_approximate(f, left) | slash::is_approximate(f, right);
-    let written = slash::write(
-        f,
-        Number {
-            value: exact,
-            approximate: marked,
-        },
-    );
-    written.or_zero()
+    if d == 0 {
+        if n == 0 {
+            Value::NotANumber
+        } else {
+            Value::Infinity(s)
+        }
+    } else {
+        Value::Fraction(Parts {
+            negative: s,
+            numerator: n,
+            denominator: d,
+        })
+    }
 }
 
-// What stops a call: its format, its code, the left word or the right one.
-fn stops(f: Format, code: u64, left: u64, right: u64) -> Checked
-    ensures { λ r. ⌜ checkOutcome r ≡ binaryStops f code left right ⌝ }
+// What a/b and c/d with the signs s and t come to, written: in plain numbers, of which the first
+// six stay in registers.
+pub(crate) fn combined_word(
+    code: u64,
+    a: u64,
+    b: u64,
+    c: u64,
+    d: u64,
+    kind: u64,
+    k: u64,
+    s: bool,
+    t: bool,
+    marked: bool,
+) -> u64
+    requires { ⌜ Small (operandOf (valueFrom s a b)) × Small (operandOf (valueFrom t c d)) ⌝ }
+    ensures { λ r. ⌜ r ≡ orZero (writeNumber (formatOf kind k) (record { value = exactValue code (valueFrom s a b) (valueFrom t c d); approximate = marked })) ⌝ }
 {
-    if !f.is_known() {
-        return Checked::Stopped(Stop::plain(Stop::FORMAT));
-    }
-    if !is_binary(code) {
-        return Checked::Stopped(Stop::plain(Stop::CODE));
-    }
-    match slash::check(f, left) {
-        Checked::Stopped(s) => Checked::Stopped(s),
-        Checked::Good => slash::check(f, right),
-    }
+    let f = Format { kind: kind, k: k };
+    let v = value_from(s, a, b);
+    let w = value_from(t, c, d);
+    let exact = exact_value(code, v, w);
+    let number = Number {
+        value: exact,
+        approximate: marked,
+    };
+    let Written::Done(word) = slash::write(f, number) else {
+        return 0;
+    };
+    word
 }
 
 // left and right combined: code 1 adds, 2 subtracts, 3 multiplies, 4 divides.
-pub fn binary(f: Format, code: u64, left: u64, right: u64) -> Answer
-    ensures written { λ r. ⌜ outcome r ≡ binaryWord f code left right ⌝ }
-    ensures best { λ r. ⌜ WhenDone (outcome r) (λ w. BestWord f (exactValue code (numberOf f left .value) (numberOf f right .value)) w) ⌝ }
+pub fn binary(f: Format, code: u64, left: u64, right: u64) -> Written
+    ensures written { λ r. ⌜ writtenOutcome r ≡ binaryWord f code left right ⌝ }
+    ensures best { λ r. ⌜ WhenDone (writtenOutcome r) (λ w. BestOf f (binarySize code (numberOf f left .value) (numberOf f right .value)) w) ⌝ }
 {
-    match stops(f, code, left, right) {
-        Checked::Stopped(s) => Answer::Stopped(s),
-        Checked::Good => Answer::Done(combined_word(f.kind, f.k, code, left, right)),
+    if let Told::Stopped(s) = f.check() {
+        return Written::Stopped(s);
     }
-}
-
-// The word of `binary`, or 0 where it stops: for a caller that has checked its words.
-pub fn binary_or_zero(f: Format, code: u64, left: u64, right: u64) -> u64
-    ensures written { λ r. ⌜ r ≡ orZero (binaryWord f code left right) ⌝ }
-    ensures best { λ r. ⌜ WhenDone (binaryWord f code left right) (λ _. BestWord f (exactValue code (numberOf f left .value) (numberOf f right .value)) r) ⌝ }
-{
-    match stops(f, code, left, right) {
-        Checked::Stopped(_) => 0,
-        Checked::Good => combined_word(f.kind, f.k, code, left, right),
+    if !is_binary(code) {
+        return Written::Stopped(Stop::plain(Stop::CODE));
+    }
+    match slash::check(f, left) {
+        Checked::Stopped(s) => Written::Stopped(s),
+        Checked::Good(x) => match slash::check(f, right) {
+            Checked::Stopped(s) => Written::Stopped(s),
+            Checked::Good(y) => {
+                let p = slash::parts_of(x.value());
+                let q = slash::parts_of(y.value());
+                let marked = x.is_approximate() | y.is_approximate();
+                Written::Done(combined_word(
+                    code,
+                    p.numerator,
+                    p.denominator,
+                    q.numerator,
+                    q.denominator,
+                    f.kind,
+                    f.k,
+                    p.negative,
+                    q.negative,
+                    marked,
+                ))
+            }
+        },
     }
 }

@@ -2,7 +2,7 @@
 ghost use mathlib.Core.Path.{_≡_};
 ghost use Prim.Native.Nat.{_<_, _^_};
 ghost use Rattle.arithmetic.specs.Operands.{Small, operandOf};
-ghost use Rattle.arithmetic.specs.Steps.{onLine};
+ghost use Rattle.arithmetic.specs.Steps.{onLine, isFraction};
 ghost use Rattle.arithmetic.specs.Comparison.{comparisonOutcome, orderOf, signedOrder, outside, compareOf, compareValues, compareWords};
 use crate::operand::Operand;
 use crate::operand::as_operand;
@@ -101,18 +101,27 @@ fn compare_any(v: Value, w: Value) -> Order
     compare_operands(as_operand(v), as_operand(w))
 }
 
-// Two fractions, which most words are, go the short way.
+fn is_fraction(v: Value) -> bool
+    ensures { λ r. ⌜ r ≡ isFraction v ⌝ }
+{
+    match v {
+        Value::Fraction(_) => true,
+        Value::Zero(_) => false,
+        Value::Infinity(_) => false,
+        Value::NotANumber => false,
+    }
+}
+
+// Two fractions, which most words are, go the short way: one test for both, so that there is one
+// branch.
 fn compare_values(v: Value, w: Value) -> Order
     requires { ⌜ Small (operandOf v) × Small (operandOf w) ⌝ }
     ensures { λ r. ⌜ r ≡ compareValues v w ⌝ }
 {
-    let Value::Fraction(p) = v else {
-        return compare_any(v, w);
-    };
-    let Value::Fraction(q) = w else {
-        return compare_any(v, w);
-    };
-    compare_parts(p, q)
+    if is_fraction(v) & is_fraction(w) {
+        return compare_parts(slash::parts_of(v), slash::parts_of(w));
+    }
+    compare_any(v, w)
 }
 
 pub fn compare(f: Format, left: u64, right: u64) -> Comparison
@@ -120,11 +129,11 @@ pub fn compare(f: Format, left: u64, right: u64) -> Comparison
 {
     match slash::check(f, left) {
         Checked::Stopped(s) => Comparison::Stopped(s),
-        Checked::Good => match slash::check(f, right) {
+        Checked::Good(x) => match slash::check(f, right) {
             Checked::Stopped(s) => Comparison::Stopped(s),
-            Checked::Good => {
-                let v = slash::value(f, left);
-                let w = slash::value(f, right);
+            Checked::Good(y) => {
+                let v = x.value();
+                let w = y.value();
                 Comparison::Done(compare_values(v, w))
             }
         },

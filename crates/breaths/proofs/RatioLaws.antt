@@ -14,12 +14,12 @@ use Rattle.convergents.specs.Rounding.{Limit, held, round}
 use Rattle.convergents.specs.Best.{Best}
 use Rattle.convergents.proofs.Optimal.{held-is, zero-held}
 use Rattle.convergents.proofs.Theorem.{round-best}
-use Rattle.slash.specs.Answers.{Outcome, done, outcome, WhenDone}
+use Rattle.slash.specs.Answers.{Outcome, done, writtenOutcome, WhenDone}
 use Rattle.slash.specs.Bits.{bits, fields}
 use Rattle.slash.specs.Formats.{kFits, known, holds}
 use Rattle.slash.specs.Words.{fixedValue, fixedNumber, numberOf, fixedWord, pairWord, wordFor, isOverZero, writeNumber, exactRatio, pairOf, BestFor, BestWord}
-use Rattle.slash.specs.declared.answer.Answer.{Answer}
-use Rattle.slash.specs.declared.answer.Answer.the-variants as Answer
+use Rattle.slash.specs.declared.answer.Written.{Written}
+use Rattle.slash.specs.declared.answer.Written.the-variants as Written
 use Rattle.slash.specs.declared.answer.Stop.{Stop}
 use Rattle.slash.specs.declared.format.Format.{Format}
 use Rattle.slash.specs.declared.number.Value.{Value}
@@ -27,7 +27,7 @@ use Rattle.slash.proofs.AnswerLaws.{done-inj, no-stop, some-not, if-case}
 use Rattle.slash.proofs.BitLaws.{bit-lt, bit-false}
 use Rattle.slash.proofs.FormatLaws.{format-limit, fixed-parts}
 use Rattle.slash.proofs.WriteLaws.{write-done, word-best}
-use Rattle.breaths.specs.Breaths.{span, breathOf, isVoid, format, ratioWord, breathRatio, noneLeft, nightRatio, fractionOf, wordOf, BestRatio, BestBreaths}
+use Rattle.breaths.specs.Breaths.{span, breathOf, isVoid, format, ratioWord, wordOf, breathRatio, breathWord, noneLeft, nightRatio, nightWord, fractionOf, BestRatio, BestBreaths}
 use Rattle.breaths.specs.Shown.{Shown, ShownRatio, Proper}
 use Rattle.breaths.specs.declared.breath.Breath.{Breath}
 use Rattle.breaths.specs.declared.breath.Sums.{Sums}
@@ -99,19 +99,19 @@ module _ (N D : ℕ) (pos : 1 ≤ D) where
   ratio-best = word-best format known-format false (exactRatio N D .value) not-over
 
   -- what `slash::round_word` answers
-  module _ (f : Format) (fe : f ≡ format) (a : Answer)
-      (w : (outcome a ≡ writeNumber f (exactRatio N D)) × WhenDone (outcome a) (λ v. BestFor f N D v)) where
-    answer : outcome a ≡ done (ratioWord N D)
+  module _ (f : Format) (fe : f ≡ format) (a : Written)
+      (w : (writtenOutcome a ≡ writeNumber f (exactRatio N D)) × WhenDone (writtenOutcome a) (λ v. BestFor f N D v)) where
+    answer : writtenOutcome a ≡ done (ratioWord N D)
     answer = w .0 ∙ ap (λ (g : Format). writeNumber g (exactRatio N D)) fe ∙ sym ratio-written
 
-    pub rounded-done : (v : ℕ) → a ≡ Answer.Done v → (Word v ≡ Word (ratioWord N D)) × BestRatio N D (Word v)
+    pub rounded-done : (v : ℕ) → a ≡ Written.Done v → (Word v ≡ Word (ratioWord N D)) × BestRatio N D (Word v)
     unfolding BestRatio
     rounded-done v e =
-        let best : BestFor f N D v = subst (λ (o : Outcome ℕ). WhenDone o (λ u. BestFor f N D u)) (ap outcome e) (w .1) in
-        (ap Word (done-inj (sym (ap outcome e) ∙ answer)), subst (λ (g : Format). BestFor g N D v) fe best)
+        let best : BestFor f N D v = subst (λ (o : Outcome ℕ). WhenDone o (λ u. BestFor f N D u)) (ap writtenOutcome e) (w .1) in
+        (ap Word (done-inj (sym (ap writtenOutcome e) ∙ answer)), subst (λ (g : Format). BestFor g N D v) fe best)
 
-    pub rounded-stop : (s : Stop) → a ≡ Answer.Stopped s → ⊥
-    rounded-stop s e = no-stop (sym (ap outcome e) ∙ answer)
+    pub rounded-stop : (s : Stop) → a ≡ Written.Stopped s → ⊥
+    rounded-stop s e = no-stop (sym (ap writtenOutcome e) ∙ answer)
 
   -- its sign is 0, and 8 hexadecimal digits are all of it
   pub ratio-unsigned : ratioWord N D < 2 ^ 31
@@ -155,6 +155,10 @@ module _ (r : Ratio) where
   unfolding wordOf
   word-word w e = rw e refl
 
+-- what the ratio of a breath and of a night promises: what it is, its word, and demand 3
+abbrev Promised : (ratio : Ratio) (word N D : ℕ) → Ratio → Type 0
+Promised ratio word N D r = (r ≡ ratio) × ((wordOf r ≡ word) × BestRatio N D r)
+
 -- ---- a breath
 
 or-false : (s t : Bool) → (s || t) ≡ false → (s ≡ false) × (t ≡ false)
@@ -173,15 +177,15 @@ module _ (b : Breath) where
       let n : b .whole ≡ 0 → ⊥ = eqb-false _ _ (w .0) in
       (omega arith, ltb-false _ _ (w .1))
 
-  pub breath-void : isVoid b ≡ true → (Void ≡ breathRatio b) × BestRatio (b .inspiration) (b .whole) Void
-  unfolding breathRatio BestRatio
-  breath-void h = (rw h refl, tt)
+  pub breath-void : isVoid b ≡ true → Promised (breathRatio b) (breathWord b) (b .inspiration) (b .whole) Void
+  unfolding breathRatio breathWord wordOf BestRatio
+  breath-void h = (rw h refl, (rw h refl, tt))
 
   pub breath-word : isVoid b ≡ false → (r : Ratio)
       → (r ≡ Word (ratioWord (b .inspiration) (b .whole))) × BestRatio (b .inspiration) (b .whole) r
-      → (r ≡ breathRatio b) × BestRatio (b .inspiration) (b .whole) r
-  unfolding breathRatio
-  breath-word h r w = (w .0 ∙ rw h refl, w .1)
+      → Promised (breathRatio b) (breathWord b) (b .inspiration) (b .whole) r
+  unfolding breathRatio breathWord wordOf
+  breath-word h r w = (w .0 ∙ rw h refl, (ap wordOf (w .0) ∙ rw h refl, w .1))
 
   -- Demand 3, of every breath.
   pub breath-best : BestRatio (b .inspiration) (b .whole) (breathRatio b)
@@ -195,15 +199,15 @@ module _ (b : Breath) where
 -- ---- a night
 
 module _ (s : Sums) where
-  pub night-void : s .whole ≡ 0 → (Void ≡ nightRatio s) × BestRatio (s .inspiration) (s .whole) Void
-  unfolding nightRatio noneLeft BestRatio
-  night-void h = (rw (eq-eqb _ _ h) refl, tt)
+  pub night-void : s .whole ≡ 0 → Promised (nightRatio s) (nightWord s) (s .inspiration) (s .whole) Void
+  unfolding nightRatio nightWord noneLeft wordOf BestRatio
+  night-void h = (rw (eq-eqb _ _ h) refl, (rw (eq-eqb _ _ h) refl, tt))
 
   pub night-word : (s .whole ≡ 0 → ⊥) → (r : Ratio)
       → (r ≡ Word (ratioWord (s .inspiration) (s .whole))) × BestRatio (s .inspiration) (s .whole) r
-      → (r ≡ nightRatio s) × BestRatio (s .inspiration) (s .whole) r
-  unfolding nightRatio noneLeft
-  night-word h r w = (w .0 ∙ rw (ne-eqb _ _ h) refl, w .1)
+      → Promised (nightRatio s) (nightWord s) (s .inspiration) (s .whole) r
+  unfolding nightRatio nightWord noneLeft wordOf
+  night-word h r w = (w .0 ∙ rw (ne-eqb _ _ h) refl, (ap wordOf (w .0) ∙ rw (ne-eqb _ _ h) refl, w .1))
 
   -- a breath is left
   some-left : noneLeft s ≡ false → 1 ≤ s .whole

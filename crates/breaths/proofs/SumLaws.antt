@@ -7,12 +7,11 @@ use native.Mathlib.Omega.{arith}
 use native.Mathlib.Nat.{add-zero, zero-add, add-assoc}
 use lib.Dec.{eqb, ltb}
 use borrow.Author.Tests.{eqb-true, lt-ltb, le-ltb, ne-eqb}
+use Rattle.slash.specs.Answers.{done, unnumbered}
 use Rattle.breaths.specs.Breaths.{isVoid, noSums, withBreath, addSums, good, sumOf, sumsOf, fits, oneMore, noneLeft}
 use Rattle.breaths.specs.Shown.{Proper}
 use Rattle.breaths.specs.declared.breath.Breath.{Breath}
 use Rattle.breaths.specs.declared.breath.Sums.{Sums}
-use Rattle.breaths.specs.declared.breath.Added.{Added}
-use Rattle.breaths.specs.declared.breath.Added.the-variants.{Done, Full}
 use Rattle.breaths.proofs.RatioLaws.{good-breath}
 
 -- ---- one breath more
@@ -58,26 +57,26 @@ module _ (s : Sums) (b : Breath) where
           ne-eqb _ _ n ∙ rw h (sym (and-false (eqb (s .whole) 0)))
 
   -- where 64 bits hold the sums
-  more-is : (t : Sums) → t ≡ withBreath s b → t .inspiration < 2 ^ 64 → t .whole < 2 ^ 64 → Done t ≡ oneMore s b
+  more-is : (t : Sums) → t ≡ withBreath s b → t .inspiration < 2 ^ 64 → t .whole < 2 ^ 64 → done t ≡ oneMore s b
   unfolding oneMore fits
   more-is t e i w = rw (sym e, lt-ltb _ _ i, lt-ltb _ _ w) refl
 
-  pub more-done : withBreath s b .inspiration < 2 ^ 64 → withBreath s b .whole < 2 ^ 64 → oneMore s b ≡ Done (withBreath s b)
+  pub more-done : withBreath s b .inspiration < 2 ^ 64 → withBreath s b .whole < 2 ^ 64 → oneMore s b ≡ done (withBreath s b)
   more-done i w = sym (more-is (withBreath s b) refl i w)
 
-  pub more-void : isVoid b ≡ true → s .inspiration < 2 ^ 64 → s .whole < 2 ^ 64 → Done s ≡ oneMore s b
+  pub more-void : isVoid b ≡ true → s .inspiration < 2 ^ 64 → s .whole < 2 ^ 64 → done s ≡ oneMore s b
   more-void h i w = more-is s (sum-void s b h) i w
 
   module _ (h : isVoid b ≡ false) where
     pub more-good : s .inspiration + b .inspiration < 2 ^ 64 → s .whole + b .whole < 2 ^ 64
-        → Done (record { inspiration = s .inspiration + b .inspiration; whole = s .whole + b .whole }) ≡ oneMore s b
+        → done (record { inspiration = s .inspiration + b .inspiration; whole = s .whole + b .whole }) ≡ oneMore s b
     more-good i w = more-is _ (sum-good s b h) i w
 
-    pub full-in : 2 ^ 64 ≤ s .inspiration + b .inspiration → Full ≡ oneMore s b
+    pub full-in : 2 ^ 64 ≤ s .inspiration + b .inspiration → unnumbered ≡ oneMore s b
     unfolding oneMore fits
     full-in i = rw (sym (sum-good s b h), le-ltb _ _ i) refl
 
-    pub full-whole : 2 ^ 64 ≤ s .whole + b .whole → Full ≡ oneMore s b
+    pub full-whole : 2 ^ 64 ≤ s .whole + b .whole → unnumbered ≡ oneMore s b
     unfolding oneMore fits
     full-whole w = rw (sym (sum-good s b h), le-ltb _ _ w, and-false (ltb (s .inspiration + b .inspiration) (2 ^ 64))) refl
 
@@ -124,16 +123,3 @@ none-good (b ∷ bs) e = go (isVoid b) refl (none-good bs)
 pub good-none : (bs : List Breath) → good bs ≡ [] → noneLeft (sumsOf bs) ≡ true
 unfolding noneLeft sumsOf sumOf
 good-none bs e = ap (λ (l : List Breath). eqb (sumOf (λ x. x .whole) l) 0) e
-
--- ---- the answers of `Sums::with_breath`
-
-pub added-inj : (s t : Sums) → Done s ≡ Done t → s ≡ t
-added-inj s t e = ap (λ (a : Added). elim a as (λ z. Sums) [ Done x ↦ x | Full ↦ s ]) e
-
-IsDone : Added → Type 0
-IsDone (Done s) = Unit {0}
-IsDone Full = ⊥
-
-pub added-full : (s : Sums) → Full ≡ Done s → ⊥
-unfolding IsDone
-added-full s e = subst IsDone (sym e) tt

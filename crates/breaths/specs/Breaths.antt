@@ -5,6 +5,7 @@ use mathlib.Core.List.{List, [], _∷_}
 use lib.Dec.{eqb, ltb}
 use Rattle.convergents.specs.Choice.{if_then_else_}
 use Rattle.convergents.specs.Pairs.{Pair}
+use Rattle.slash.specs.Answers.{Outcome, done, unnumbered}
 use Rattle.slash.specs.Words.{numberOf, wordFor, exactRatio, pairOf, BestFor}
 use Rattle.slash.specs.declared.format.Format.{Format}
 use Rattle.breaths.specs.declared.breath.Breath.{Breath}
@@ -34,8 +35,18 @@ format = record { kind = 1; k = 15 }
 unfoldable pub ratioWord : (N D : ℕ) → ℕ
 ratioWord N D = wordFor format false (exactRatio N D .value)
 
+-- The word that a ratio is stored as: a void one has word 0.
+unfoldable pub wordOf : Ratio → ℕ
+wordOf Void = 0
+wordOf (Word w) = w
+
+-- A breath's ratio: in over whole, rounded; a void breath has none.
 unfoldable pub breathRatio : Breath → Ratio
 breathRatio b = if isVoid b then Void else Word (ratioWord (b .inspiration) (b .whole))
+
+-- A breath's word: that of in over whole; a void breath has word 0.
+unfoldable pub breathWord : Breath → ℕ
+breathWord b = if isVoid b then 0 else ratioWord (b .inspiration) (b .whole)
 
 -- The breaths that aren't void.
 unfoldable pub good : List Breath → List Breath
@@ -67,9 +78,14 @@ addSums s t = record { inspiration = s .inspiration + t .inspiration; whole = s 
 unfoldable pub fits : Sums → Bool
 fits s = ltb (s .inspiration) (2 ^ 64) && ltb (s .whole) (2 ^ 64)
 
--- What adding a breath answers: the sums with it, where 64 bits hold them. (Those of every night do: `night-fits`.)
-unfoldable pub oneMore : Sums → Breath → Added
-oneMore s b = if fits (withBreath s b) then Done (withBreath s b) else Full
+-- The outcome that each answer of adding a breath stands for.
+abbrev pub addedOutcome : Added → Outcome Sums
+addedOutcome (Done s) = done s
+addedOutcome Full = unnumbered
+
+-- What adding a breath comes to: the sums with it, where 64 bits hold them. (Those of every night do: `night-fits`.)
+unfoldable pub oneMore : Sums → Breath → Outcome Sums
+oneMore s b = if fits (withBreath s b) then done (withBreath s b) else unnumbered
 
 -- No breath is left: each that is has a whole of at least 1.
 unfoldable pub noneLeft : Sums → Bool
@@ -79,10 +95,9 @@ noneLeft s = eqb (s .whole) 0
 unfoldable pub nightRatio : Sums → Ratio
 nightRatio s = if noneLeft s then Void else Word (ratioWord (s .inspiration) (s .whole))
 
--- The word that a ratio is stored as: a void one has word 0.
-unfoldable pub wordOf : Ratio → ℕ
-wordOf Void = 0
-wordOf (Word w) = w
+-- The night's word: that of the sum of in over the sum of whole; a void night has word 0.
+unfoldable pub nightWord : Sums → ℕ
+nightWord s = if noneLeft s then 0 else ratioWord (s .inspiration) (s .whole)
 
 -- A word's fraction: the pair that it is read as.
 unfoldable pub fractionOf : ℕ → Pair

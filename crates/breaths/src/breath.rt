@@ -1,6 +1,6 @@
 // A breath's durations, and a night's sums of them.
 ghost use mathlib.Core.Path.{_≡_};
-ghost use Rattle.breaths.specs.Breaths.{breathOf, isVoid, breathRatio, oneMore, nightRatio, BestRatio};
+ghost use Rattle.breaths.specs.Breaths.{breathOf, isVoid, wordOf, breathRatio, breathWord, addedOutcome, oneMore, nightRatio, nightWord, BestRatio};
 use crate::ratio::Ratio;
 use crate::ratio::rounded;
 
@@ -45,6 +45,7 @@ impl Breath {
     // The ratio of breathing in to whole breath.
     pub fn ratio(self) -> Ratio
         ensures defined { λ r. ⌜ r ≡ breathRatio self ⌝ }
+        ensures word { λ r. ⌜ wordOf r ≡ breathWord self ⌝ }
         ensures best { λ r. ⌜ BestRatio (self .inspiration) (self .whole) r ⌝ }
     {
         if self.is_void() {
@@ -58,7 +59,7 @@ impl Breath {
 impl Sums {
     // The sums with one breath more: a void breath is left out.
     pub fn with_breath(self, b: Breath) -> Added
-        ensures { λ r. ⌜ r ≡ oneMore self b ⌝ }
+        ensures { λ r. ⌜ addedOutcome r ≡ oneMore self b ⌝ }
     {
         if b.is_void() {
             return Added::Done(self);
@@ -80,6 +81,7 @@ impl Sums {
     // The ratio of a night: void if no breath is left to sum.
     pub fn ratio(self) -> Ratio
         ensures defined { λ r. ⌜ r ≡ nightRatio self ⌝ }
+        ensures word { λ r. ⌜ wordOf r ≡ nightWord self ⌝ }
         ensures best { λ r. ⌜ BestRatio (self .inspiration) (self .whole) r ⌝ }
     {
         if self.whole == 0 {

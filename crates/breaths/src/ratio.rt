@@ -2,8 +2,8 @@
 ghost use mathlib.Core.Path.{_≡_};
 ghost use Prim.Native.Nat.{_≤_};
 ghost use Rattle.breaths.specs.Breaths.{format, ratioWord, wordOf, BestRatio};
-use slash::Answer;
 use slash::Format;
+use slash::Written;
 
 // The word, or none where there is nothing to take the ratio of.
 pub enum Ratio {
@@ -40,7 +40,7 @@ pub(crate) fn rounded(n: u64, d: u64) -> Ratio
     ensures best { λ r. ⌜ BestRatio n d r ⌝ }
 {
     match slash::round_word(Ratio::format(), n, d) {
-        Answer::Done(w) => Ratio::Word(w),
-        Answer::Stopped(_) => Ratio::Void,
+        Written::Done(w) => Ratio::Word(w),
+        Written::Stopped(_) => Ratio::Void,
     }
 }

@@ -6,6 +6,7 @@ use arithmetic::Comparison;
 use arithmetic::Order;
 use slash::Answer;
 use slash::Format;
+use slash::Written;
 
 // How many words a format of at most 16 bits has; 0 for any other.
 pub(crate) fn count(f: Format) -> u64
@@ -18,21 +19,21 @@ pub(crate) fn count(f: Format) -> u64
 }
 
 // A word in hexadecimal, or a stop in full.
-pub(crate) fn show_word(a: Answer) {
+pub(crate) fn show_word(a: Written) {
     match a {
-        Answer::Done(w) => show::hexadecimal(w),
-        Answer::Stopped(s) => show::stop(s),
+        Written::Done(w) => show::hexadecimal(w),
+        Written::Stopped(s) => show::stop(s),
     }
 }
 
 // One of many answers, parted by spaces; a stop is ! and its number.
-pub(crate) fn show_one(first: bool, a: Answer) {
+pub(crate) fn show_one(first: bool, a: Written) {
     if !first {
         show::text(b" ");
     }
     match a {
-        Answer::Done(w) => show::hexadecimal(w),
-        Answer::Stopped(s) => {
+        Written::Done(w) => show::hexadecimal(w),
+        Written::Stopped(s) => {
             show::text(b"!");
             show::number(s.number);
         }
@@ -91,7 +92,7 @@ pub(crate) fn compare_all(f: Format, left: u64) {
 
 // v KIND K TO_KIND TO_K WORD
 pub(crate) fn convert(f: Format, to: Format, w: u64) {
-    show_word(arithmetic::convert(f, to, w));
+    show_word(conversion::convert(f, to, w));
 }
 
 // V KIND K TO_KIND TO_K
@@ -99,7 +100,7 @@ pub(crate) fn convert_all(f: Format, to: Format) {
     let n = count(f);
     let mut w: u64 = 0;
     while w < n {
-        show_one(w == 0, arithmetic::convert(f, to, w));
+        show_one(w == 0, conversion::convert(f, to, w));
         w += 1;
     }
 }

@@ -2,12 +2,12 @@
 ghost use Prim.Native.Nat.{_≤_};
 use crate::show;
 use slash::Format;
-use vectors::Stored;
+use slash::Told;
 
-fn show_stored(r: Stored) {
+fn show_stored(r: Told) {
     match r {
-        Stored::Done => show::text(b"done"),
-        Stored::Stopped(s) => show::stop(s),
+        Told::Done => show::text(b"done"),
+        Told::Stopped(s) => show::stop(s),
     }
 }
 
@@ -48,7 +48,7 @@ pub(crate) fn binary_each(f: Format, code: u64, left: u64, right: u64, out: u64,
     let mut result = [0u64; 16];
     let lent = &mut result[..n];
     copy(&all[end..], lent);
-    show_stored(vectors::binary_each(f, code, &all[7..middle], &all[middle..end], lent));
+    show_stored(arithmetic::binary_each(f, code, &all[7..middle], &all[middle..end], lent));
     show_words(lent);
 }
 
@@ -62,7 +62,7 @@ pub(crate) fn unary_each(f: Format, code: u64, operand: u64, out: u64, all: &[u6
     let mut result = [0u64; 16];
     let lent = &mut result[..n];
     copy(&all[end..], lent);
-    show_stored(vectors::unary_each(f, code, &all[6..end], lent));
+    show_stored(unary::unary_each(f, code, &all[6..end], lent));
     show_words(lent);
 }
 
@@ -76,6 +76,6 @@ pub(crate) fn convert_each(f: Format, to: Format, operand: u64, out: u64, all: &
     let mut result = [0u64; 16];
     let lent = &mut result[..n];
     copy(&all[end..], lent);
-    show_stored(vectors::convert_each(f, to, &all[7..end], lent));
+    show_stored(conversion::convert_each(f, to, &all[7..end], lent));
     show_words(lent);
 }

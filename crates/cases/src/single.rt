@@ -25,7 +25,7 @@ pub(crate) fn operation_all(f: Format, code: u64) {
 
 // g KIND K WORD
 pub(crate) fn gcd(f: Format, w: u64) {
-    show_number(unary::gcd(f, w));
+    show_number(euclid::gcd(f, w));
 }
 
 // One of many answers, parted by spaces; a stop is ! and its number.
@@ -47,7 +47,7 @@ pub(crate) fn gcd_all(f: Format) {
     let n = count(f);
     let mut w: u64 = 0;
     while w < n {
-        show_one(w == 0, unary::gcd(f, w));
+        show_one(w == 0, euclid::gcd(f, w));
         w += 1;
     }
 }
@@ -76,6 +76,6 @@ pub(crate) fn quotients(f: Format, length: u64, w: u64) {
     let mut list = [4242u32; 70];
     let n = at_most_70(length);
     let lent = &mut list[..n];
-    show_number(unary::quotients(f, w, lent));
+    show_number(euclid::quotients(f, w, lent));
     show_list(lent);
 }

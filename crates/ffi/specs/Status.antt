@@ -1,10 +1,6 @@
 -- What a call from C returns, and what it leaves behind a pointer.
 use Prim.Native.Nat.{ℕ, _+_, _*_, _%_, _^_}
-use Rattle.slash.specs.Answers.{Outcome, stop, done, _then_}
-use Rattle.slash.specs.declared.format.Format.{Format}
-use Rattle.arithmetic.specs.Comparison.{compareWords}
-use Rattle.arithmetic.specs.declared.ordering.Order.{Order}
-use Rattle.arithmetic.specs.declared.ordering.Order.the-variants.{Below, Equal, Above, Unordered}
+use Rattle.slash.specs.Answers.{Outcome, stop, done}
 
 -- 0 where nothing stopped; else the stop's number in the low 8 bits and its place above them. (No number is above 255, and no memory lends
 -- 2^56 places.)
@@ -16,13 +12,3 @@ status (done x) = 0
 unfoldable pub behind : Outcome ℕ → ℕ → ℕ
 behind (stop number place) old = old
 behind (done x) old = x
-
--- 0 below, 1 equal, 2 above, 3 unordered.
-unfoldable pub orderNumber : Order → ℕ
-orderNumber Below = 0
-orderNumber Equal = 1
-orderNumber Above = 2
-orderNumber Unordered = 3
-
-unfoldable pub compareNumber : Format → (left right : ℕ) → Outcome ℕ
-compareNumber f left right = compareWords f left right then λ o. done (orderNumber o)

@@ -3,7 +3,10 @@ ghost use mathlib.Core.Path.{_≡_};
 ghost use Rattle.slash.specs.Formats.{formatOf};
 ghost use Rattle.slash.specs.Answers.{WhenDone};
 ghost use Rattle.vectors.specs.Each.{vectorAfter, EachPlace};
-ghost use Rattle.vectors.specs.Vectors.{places, binaryEach, unaryEach, convertEach, BestBinary, BestUnary, BestConverted};
+ghost use Rattle.vectors.specs.Vectors.{places};
+ghost use Rattle.arithmetic.specs.Vectors.{binaryEach, BestBinary};
+ghost use Rattle.conversion.specs.Vectors.{convertEach, BestConverted};
+ghost use Rattle.unary.specs.Vectors.{unaryEach, BestUnary};
 ghost use Rattle.ffi.specs.Status.{status};
 use crate::status::of_vector;
 use slash::Format;
@@ -23,7 +26,7 @@ pub extern "C" fn slash_binary_each(
     ensures best { λ _. ⌜ WhenDone (binaryEach (formatOf kind k) code (now (left .entry)) (now (right .entry)) (now (out .entry))) (λ _. EachPlace (BestBinary (formatOf kind k) code) (places (now (left .entry)) (now (right .entry))) (now (out .exit))) ⌝ }
 {
     let f = Format { kind: kind, k: k };
-    of_vector(vectors::binary_each(f, code, left, right, out))
+    of_vector(arithmetic::binary_each(f, code, left, right, out))
 }
 
 // A unary operation at each place. Stops 1, 2, 3, 4, 5.
@@ -40,7 +43,7 @@ pub extern "C" fn slash_unary_each(
     ensures best { λ _. ⌜ WhenDone (unaryEach (formatOf kind k) code (now (operand .entry)) (now (out .entry))) (λ _. EachPlace (BestUnary (formatOf kind k) code) (now (operand .entry)) (now (out .exit))) ⌝ }
 {
     let f = Format { kind: kind, k: k };
-    of_vector(vectors::unary_each(f, code, operand, out))
+    of_vector(unary::unary_each(f, code, operand, out))
 }
 
 // A conversion at each place. Stops 1, 3, 4, 5.
@@ -62,5 +65,5 @@ pub extern "C" fn slash_convert_each(
         kind: tokind,
         k: tok,
     };
-    of_vector(vectors::convert_each(source, target, operand, out))
+    of_vector(conversion::convert_each(source, target, operand, out))
 }

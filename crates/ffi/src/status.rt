@@ -1,12 +1,12 @@
 // What a call returns, and what goes behind a pointer.
 ghost use mathlib.Core.Path.{_≡_};
 ghost use Prim.Native.Nat.{_+_, _*_, _%_};
-ghost use Rattle.slash.specs.Answers.{outcome};
-ghost use Rattle.vectors.specs.Each.{storedOutcome};
+ghost use Rattle.slash.specs.Answers.{outcome, toldOutcome, writtenOutcome};
 ghost use Rattle.ffi.specs.Status.{status, behind};
 use slash::Answer;
 use slash::Stop;
-use vectors::Stored;
+use slash::Told;
+use slash::Written;
 
 // 2^56: so many places can be told.
 const PLACES: u64 = 72057594037927936;
@@ -31,11 +31,25 @@ pub(crate) fn store(a: Answer, to: &mut u64) -> u64
     }
 }
 
-pub(crate) fn of_vector(r: Stored) -> u64
-    ensures { λ n. ⌜ n ≡ status (storedOutcome r) ⌝ }
+// The same of a word.
+pub(crate) fn store_word(w: Written, to: &mut u64) -> u64
+    ensures returned { λ r. ⌜ r ≡ status (writtenOutcome w) ⌝ }
+    ensures stored { λ _. ⌜ now (to .exit) ≡ behind (writtenOutcome w) (now (to .entry)) ⌝ }
+{
+    match w {
+        Written::Done(word) => {
+            *to = word;
+            0
+        }
+        Written::Stopped(s) => stop_status(s),
+    }
+}
+
+pub(crate) fn of_vector(r: Told) -> u64
+    ensures { λ n. ⌜ n ≡ status (toldOutcome r) ⌝ }
 {
     match r {
-        Stored::Done => 0,
-        Stored::Stopped(s) => stop_status(s),
+        Told::Done => 0,
+        Told::Stopped(s) => stop_status(s),
     }
 }

@@ -2,16 +2,18 @@
 ghost use mathlib.Core.Path.{_≡_};
 ghost use Prim.Native.Nat.{_≤_};
 ghost use Rattle.slash.specs.Formats.{formatOf};
-ghost use Rattle.slash.specs.Answers.{outcome, done, _then_, WhenDone};
-ghost use Rattle.slash.specs.Words.{numberOf, writeNumber, exactRatio, BestFor, BestWord};
-ghost use Rattle.arithmetic.specs.Binary.{exactValue, binaryWord};
-ghost use Rattle.arithmetic.specs.Comparison.{comparisonOutcome};
-ghost use Rattle.arithmetic.specs.Conversion.{convertWord};
+ghost use Rattle.slash.specs.Answers.{outcome, WhenDone};
+ghost use Rattle.slash.specs.Words.{numberOf, writeNumber, exactRatio, BestFor, BestOf, BestWord};
+ghost use Rattle.arithmetic.specs.Binary.{binaryWord};
+ghost use Rattle.arithmetic.specs.Sizes.{binarySize};
+ghost use Rattle.arithmetic.specs.Comparison.{orderNumber, comparisonOutcome, compareWords};
+ghost use Rattle.conversion.specs.Conversion.{convertWord};
 ghost use Rattle.unary.specs.Unary.{exactUnary, unaryWord};
-ghost use Rattle.unary.specs.Divisor.{gcdWord};
-ghost use Rattle.unary.specs.Quotients.{wordQuotients, quotientCount, listed};
-ghost use Rattle.ffi.specs.Status.{status, behind, orderNumber, compareNumber};
+ghost use Rattle.euclid.specs.Divisor.{gcdWord};
+ghost use Rattle.euclid.specs.Quotients.{wordQuotients, quotientCount, listed};
+ghost use Rattle.ffi.specs.Status.{status, behind};
 use crate::status::store;
+use crate::status::store_word;
 use arithmetic::Comparison;
 use arithmetic::Order;
 use slash::Answer;
@@ -24,7 +26,7 @@ pub extern "C" fn slash_round(kind: u64, k: u64, n: u64, d: u64, word: &mut u64)
     ensures stored { λ _. ⌜ now (word .exit) ≡ behind (writeNumber (formatOf kind k) (exactRatio n d)) (now (word .entry)) ⌝ }
     ensures best { λ _. ⌜ WhenDone (writeNumber (formatOf kind k) (exactRatio n d)) (λ _. BestFor (formatOf kind k) n d (now (word .exit))) ⌝ }
 {
-    store(slash::round_word(Format { kind: kind, k: k }, n, d), word)
+    store_word(slash::round_word(Format { kind: kind, k: k }, n, d), word)
 }
 
 // A binary operation. Stops 1, 2, 4, 5.
@@ -39,10 +41,10 @@ pub extern "C" fn slash_binary(
 ) -> u64
     ensures returned { λ r. ⌜ r ≡ status (binaryWord (formatOf kind k) code left right) ⌝ }
     ensures stored { λ _. ⌜ now (word .exit) ≡ behind (binaryWord (formatOf kind k) code left right) (now (word .entry)) ⌝ }
-    ensures best { λ _. ⌜ WhenDone (binaryWord (formatOf kind k) code left right) (λ _. BestWord (formatOf kind k) (exactValue code (numberOf (formatOf kind k) left .value) (numberOf (formatOf kind k) right .value)) (now (word .exit))) ⌝ }
+    ensures best { λ _. ⌜ WhenDone (binaryWord (formatOf kind k) code left right) (λ _. BestOf (formatOf kind k) (binarySize code (numberOf (formatOf kind k) left .value) (numberOf (formatOf kind k) right .value)) (now (word .exit))) ⌝ }
 {
     let f = Format { kind: kind, k: k };
-    store(arithmetic::binary(f, code, left, right), word)
+    store_word(arithmetic::binary(f, code, left, right), word)
 }
 
 // A unary operation. Stops 1, 2, 4, 5.
@@ -53,7 +55,7 @@ pub extern "C" fn slash_unary(kind: u64, k: u64, code: u64, operand: u64, word: 
     ensures best { λ _. ⌜ WhenDone (unaryWord (formatOf kind k) code operand) (λ _. 3 ≤ code → BestWord (formatOf kind k) (exactUnary code (numberOf (formatOf kind k) operand .value)) (now (word .exit))) ⌝ }
 {
     let f = Format { kind: kind, k: k };
-    store(unary::unary(f, code, operand), word)
+    store_word(unary::unary(f, code, operand), word)
 }
 
 fn order_number(o: Order) -> u64
@@ -68,7 +70,7 @@ fn order_number(o: Order) -> u64
 }
 
 fn order_answer(c: Comparison) -> Answer
-    ensures { λ r. ⌜ outcome r ≡ (comparisonOutcome c then λ o. done (orderNumber o)) ⌝ }
+    ensures { λ r. ⌜ outcome r ≡ comparisonOutcome c ⌝ }
 {
     match c {
         Comparison::Done(o) => Answer::Done(order_number(o)),
@@ -79,8 +81,8 @@ fn order_answer(c: Comparison) -> Answer
 // 0 below, 1 equal, 2 above, 3 unordered. Stops 1, 4, 5.
 #[no_mangle]
 pub extern "C" fn slash_compare(kind: u64, k: u64, left: u64, right: u64, order: &mut u64) -> u64
-    ensures returned { λ r. ⌜ r ≡ status (compareNumber (formatOf kind k) left right) ⌝ }
-    ensures stored { λ _. ⌜ now (order .exit) ≡ behind (compareNumber (formatOf kind k) left right) (now (order .entry)) ⌝ }
+    ensures returned { λ r. ⌜ r ≡ status (compareWords (formatOf kind k) left right) ⌝ }
+    ensures stored { λ _. ⌜ now (order .exit) ≡ behind (compareWords (formatOf kind k) left right) (now (order .entry)) ⌝ }
 {
     let f = Format { kind: kind, k: k };
     store(order_answer(arithmetic::compare(f, left, right)), order)
@@ -93,7 +95,7 @@ pub extern "C" fn slash_gcd(kind: u64, k: u64, operand: u64, divisor: &mut u64) 
     ensures stored { λ _. ⌜ now (divisor .exit) ≡ behind (gcdWord (formatOf kind k) operand) (now (divisor .entry)) ⌝ }
 {
     let f = Format { kind: kind, k: k };
-    store(unary::gcd(f, operand), divisor)
+    store(euclid::gcd(f, operand), divisor)
 }
 
 // A word as a word of another format. Stops 1, 4, 5.
@@ -115,7 +117,7 @@ pub extern "C" fn slash_convert(
         kind: tokind,
         k: tok,
     };
-    store(arithmetic::convert(source, target, operand), word)
+    store_word(conversion::convert(source, target, operand), word)
 }
 
 // The partial quotients into a lent list, and their count. Stops 1, 4, 5, 7.
@@ -132,5 +134,5 @@ pub extern "C" fn slash_quotients(
     ensures counted { λ _. ⌜ now (count .exit) ≡ behind (quotientCount (formatOf kind k) operand (now (list .entry))) (now (count .entry)) ⌝ }
 {
     let f = Format { kind: kind, k: k };
-    store(unary::quotients(f, operand, list), count)
+    store(euclid::quotients(f, operand, list), count)
 }

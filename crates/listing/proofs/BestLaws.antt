@@ -1,23 +1,22 @@
 -- The breaths of a piece, and demand 3 of it. Assumes nothing.
 use mathlib.Core.Path.{_≡_, refl, sym, ap, _∙_, subst}
-use mathlib.Core.Bool.{Bool}
+use mathlib.Core.Bool.{Bool, true, false}
 use mathlib.Core.List.{List, [], _∷_, _++_, append-assoc}
 use Prim.Native.Nat.{ℕ, zero, suc, _+_, _-_, _≤_}
 use native.Mathlib.Omega.{arith}
 use lib.ListN.{length, take, drop}
 use lib.Seq.{take-add, drop-at, length-take-le}
-use Rattle.slash.specs.declared.answer.Stop.{Stop}
+use Rattle.slash.specs.Answers.{stop, done}
 use Rattle.breaths.specs.Breaths.{addSums, sumsOf}
 use Rattle.breaths.specs.declared.breath.Breath.{Breath}
 use Rattle.breaths.specs.declared.breath.Sums.{Sums}
 use Rattle.breaths.proofs.RatioLaws.{breaths-best, night-best}
 use Rattle.breaths.proofs.SumLaws.{add-none, add-breath}
-use Rattle.recording.specs.Reading.{nextOf, breathsFrom, breathsOn}
+use Rattle.recording.specs.Reading.{aBreath, nextOf, breathsFrom, breathsOn}
 use Rattle.recording.specs.declared.line.Entry.{Entry}
-use Rattle.recording.specs.declared.reading.Next.the-variants as Next
 use Rattle.recording.proofs.ReadingLaws.{follows-breath, next-taken, breaths-more, breaths-none}
 use Rattle.listing.specs.Listing.{breathLine, allLine, numbered, withLine}
-use Rattle.listing.specs.Pieces.{Listed, heldBack, stay, onward, pieceFrom, pieceOf, breathsOf, endText, BestPiece}
+use Rattle.listing.specs.Pieces.{endOutcome, Listed, heldBack, stay, onward, pieceFrom, pieceOf, breathsOf, endText, BestPiece}
 use Rattle.listing.specs.declared.night.Night.{Night}
 use Rattle.listing.specs.declared.piece.End.{End}
 use Rattle.listing.specs.declared.piece.End.the-variants.{Open, Closed, Refused, NoNight}
@@ -30,7 +29,7 @@ use Rattle.listing.proofs.PieceLaws.{further, pieces-case, piece-case}
 drop-taken : (n m : ℕ) (bs : List ℕ) → n ≤ length bs → drop n (take (n + m) bs) ≡ take m (drop n bs)
 drop-taken n m bs h = ap (drop n) (take-add n m bs) ∙ drop-at (take n bs) (take m (drop n bs)) n (length-take-le n bs h)
 
-taken-more : (steps line : ℕ) (bs : List ℕ) (entry : Entry) → nextOf line bs ≡ Next.Breath entry → (used : ℕ)
+taken-more : (steps line : ℕ) (bs : List ℕ) (entry : Entry) → nextOf line bs ≡ done (aBreath entry) → (used : ℕ)
     → breathsFrom (suc steps) line (take (entry .used + used) bs) ≡ entry .breath ∷ breathsFrom steps (suc line) (take used (drop (entry .used) bs))
 taken-more steps line bs entry n used =
     breaths-more steps line (take (entry .used + used) bs) entry (next-taken line bs entry n (entry .used + used) (omega arith))
@@ -40,19 +39,19 @@ taken-more steps line bs entry n used =
 
 -- The text is the numbered lines of some breaths, and `all` at the end; and so are the sums.
 record Lists (night : Night) (breaths : List Breath) (l : Listed) : Type 0 where
-  pub lines : l .text ≡ numbered (night .breath) breaths ++ endText (l .night .sums) (l .end)
+  pub lines : l .text ≡ numbered (night .breath) breaths ++ endText (l .night .sums) (endOutcome (l .end))
   pub sums : l .night .sums ≡ addSums (night .sums) (sumsOf breaths)
 
-lists-stay : (night : Night) (text : List ℕ) (end : End) → text ≡ endText (night .sums) end → Lists night [] (stay night text end)
+lists-stay : (night : Night) (text : List ℕ) (end : End) → text ≡ endText (night .sums) (endOutcome end) → Lists night [] (stay night text end)
 unfolding stay numbered
 lists-stay night text end e = record { lines = e; sums = add-none (night .sums) }
 
-held-text : (used : ℕ) (s : Sums) (end : End) → endText s end ≡ endText s (heldBack used end)
+held-text : (used : ℕ) (s : Sums) (end : End) → endText s (endOutcome end) ≡ endText s (endOutcome (heldBack used end))
 unfolding heldBack endText
 held-text zero s end = refl
 held-text (suc n) s Open = refl
 held-text (suc n) s Closed = refl
-held-text (suc n) s (Refused stop) = refl
+held-text (suc n) s (Refused x) = refl
 held-text (suc n) s NoNight = refl
 
 lists-onward : (night : Night) (b : Breath) (breaths : List Breath) (used : ℕ) (l : Listed) → Lists (withLine night b) breaths l
@@ -64,7 +63,7 @@ lists-onward night b breaths used l p =
     record {
       lines =
           ap (λ (t : List ℕ). line ++ t) (p .lines)
-          ∙ sym (append-assoc line rest (endText (l .night .sums) (l .end)))
+          ∙ sym (append-assoc line rest (endText (l .night .sums) (endOutcome (l .end))))
           ∙ ap (λ (t : List ℕ). (line ++ rest) ++ t) (held-text used (l .night .sums) (l .end));
       sums = p .sums ∙ add-breath b breaths (night .sums);
     }
@@ -81,27 +80,23 @@ onward-used line used l = refl
 abbrev ListsUsed : (steps : ℕ) (night : Night) (bs : List ℕ) → Listed → Type 0
 ListsUsed steps night bs l = Lists night (breathsFrom steps (night .line) (take (l .used) bs)) l
 
-used-stay : (steps : ℕ) (night : Night) (bs text : List ℕ) (end : End) → text ≡ endText (night .sums) end → ListsUsed steps night bs (stay night text end)
+used-stay : (steps : ℕ) (night : Night) (bs text : List ℕ) (end : End) → text ≡ endText (night .sums) (endOutcome end) → ListsUsed steps night bs (stay night text end)
 used-stay steps night bs text end e =
     subst (λ (x : List Breath). Lists night x (stay night text end))
     (sym (breaths-none steps (night .line)) ∙ ap (λ (n : ℕ). breathsFrom steps (night .line) (take n bs)) (stay-used night text end))
     (lists-stay night text end e)
 
-open-text : (s : Sums) → [] ≡ endText s Open
+open-text : (s : Sums) → [] ≡ endText s (done false)
 unfolding endText
 open-text s = refl
 
-closed-text : (s : Sums) → allLine s ≡ endText s Closed
+closed-text : (s : Sums) → allLine s ≡ endText s (done true)
 unfolding endText
 closed-text s = refl
 
-refused-text : (s : Sums) (stop : Stop) → [] ≡ endText s (Refused stop)
+refused-text : (s : Sums) (number place : ℕ) → [] ≡ endText s (stop number place)
 unfolding endText
-refused-text s stop = refl
-
-none-text : (s : Sums) → [] ≡ endText s NoNight
-unfolding endText
-none-text s = refl
+refused-text s number place = refl
 
 lists : (steps : ℕ) (night : Night) (bs : List ℕ) (last : Bool) (room : ℕ) → ListsUsed steps night bs (pieceFrom steps night bs last room)
 unfolding pieceFrom
@@ -112,9 +107,9 @@ lists (suc steps) night bs last room =
     (λ t entry n. further-lists entry n
     (lists steps (withLine night (entry .breath)) (drop (entry .used) bs) last (room - length (breathLine (night .breath) (entry .breath)))))
     (λ t n. used-stay (suc steps) night bs (allLine (night .sums)) Closed (closed-text (night .sums)))
-    (λ t s n. used-stay (suc steps) night bs [] (Refused s) (refused-text (night .sums) s))
+    (λ t number place n. used-stay (suc steps) night bs [] _ (refused-text (night .sums) number place))
   where
-    further-lists : (entry : Entry) → nextOf (night .line) bs ≡ Next.Breath entry
+    further-lists : (entry : Entry) → nextOf (night .line) bs ≡ done (aBreath entry)
         → ListsUsed steps (withLine night (entry .breath)) (drop (entry .used) bs)
         (pieceFrom steps (withLine night (entry .breath)) (drop (entry .used) bs) last (room - length (breathLine (night .breath) (entry .breath))))
         → ListsUsed (suc steps) night bs (further steps night bs last room entry)
@@ -140,4 +135,4 @@ best-piece night bs last room =
     best-lists night bs (pieceOf night bs last room)
     (piece-case (ListsUsed (65538 - night .line) night bs) night bs last room
     (λ e. lists (65538 - night .line) night bs last room)
-    (used-stay (65538 - night .line) night bs [] NoNight (none-text (night .sums))))
+    (used-stay (65538 - night .line) night bs [] NoNight (refused-text (night .sums) _ _)))

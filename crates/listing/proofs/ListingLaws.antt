@@ -6,7 +6,6 @@ use native.Mathlib.Omega.{arith}
 use native.Mathlib.Nat.{suc-add}
 use lib.ListN.{length, drop, length-append}
 use Rattle.slash.specs.Answers.{Outcome, stop, done}
-use Rattle.slash.specs.declared.answer.Stop.{Stop}
 use Rattle.breaths.specs.Breaths.{breathRatio, nightRatio, addSums, sumsOf}
 use Rattle.breaths.specs.Shown.{Proper}
 use Rattle.breaths.specs.declared.breath.Breath.{Breath}
@@ -16,10 +15,8 @@ use Rattle.breaths.proofs.SumLaws.{add-none, none-add, add-breath}
 use Rattle.text.specs.Lines.{lineOf, refusedLine}
 use Rattle.text.specs.declared.line.Name.the-variants.{Number, All}
 use Rattle.text.proofs.LineLaws.{number-length, all-length, refused-length}
-use Rattle.recording.specs.Reading.{nextOf, breathsFrom, checkFrom, breathsOn, breathsIn, recordingCheck}
+use Rattle.recording.specs.Reading.{Coming, aBreath, theEnd, nextOf, breathsFrom, checkFrom, breathsOn, breathsIn, recordingCheck}
 use Rattle.recording.specs.declared.line.Entry.{Entry}
-use Rattle.recording.specs.declared.reading.Next.{Next}
-use Rattle.recording.specs.declared.reading.Next.the-variants as Next
 use Rattle.recording.proofs.ReadingLaws.{follows-breath, follows-stop, breaths-more, breaths-end, breaths-stop, check-more, check-end, check-stop}
 use Rattle.listing.specs.Listing.{breathLine, allLine, begun, withLine, listingFrom, listingOn, listingOf, numbered, lastLine}
 use Rattle.listing.specs.Nights.{BestNight}
@@ -39,35 +36,27 @@ all-line s = refl
 -- ---- one step
 
 module _ (steps : ℕ) (night : Night) (bs : List ℕ) where
-  listing-step : (x : Next) → nextOf (night .line) bs ≡ x
-      → listingFrom (suc steps) night bs
-      ≡ elim x [
-        | Next.Breath entry ↦ breathLine (night .breath) (entry .breath) ++ listingFrom steps (withLine night (entry .breath)) (drop (entry .used) bs)
-        | Next.End ↦ allLine (night .sums)
-        | Next.Stopped s ↦ refusedLine (s .number) (s .place)
-      ]
+  abbrev listed : Outcome Coming → List ℕ
+  listed (done (aBreath entry)) = breathLine (night .breath) (entry .breath) ++ listingFrom steps (withLine night (entry .breath)) (drop (entry .used) bs)
+  listed (done theEnd) = allLine (night .sums)
+  listed (stop number place) = refusedLine number place
+
+  listing-step : (x : Outcome Coming) → nextOf (night .line) bs ≡ x → listingFrom (suc steps) night bs ≡ listed x
   unfolding listingFrom
-  listing-step x e =
-      ap
-      (λ (y : Next). elim y as (λ z. List ℕ) [
-        | Next.Breath entry ↦ breathLine (night .breath) (entry .breath) ++ listingFrom steps (withLine night (entry .breath)) (drop (entry .used) bs)
-        | Next.End ↦ allLine (night .sums)
-        | Next.Stopped s ↦ refusedLine (s .number) (s .place)
-      ])
-      e
+  listing-step x e = ap listed e
 
-  pub listing-more : (entry : Entry) → nextOf (night .line) bs ≡ Next.Breath entry
+  pub listing-more : (entry : Entry) → nextOf (night .line) bs ≡ done (aBreath entry)
       → listingFrom (suc steps) night bs ≡ breathLine (night .breath) (entry .breath) ++ listingFrom steps (withLine night (entry .breath)) (drop (entry .used) bs)
-  listing-more entry e = listing-step (Next.Breath entry) e
+  listing-more entry e = listing-step (done (aBreath entry)) e
 
-  pub listing-end : nextOf (night .line) bs ≡ Next.End → listingFrom (suc steps) night bs ≡ allLine (night .sums)
-  listing-end e = listing-step Next.End e
+  pub listing-end : nextOf (night .line) bs ≡ done theEnd → listingFrom (suc steps) night bs ≡ allLine (night .sums)
+  listing-end e = listing-step (done theEnd) e
 
-  pub listing-stop : (s : Stop) → nextOf (night .line) bs ≡ Next.Stopped s → listingFrom (suc steps) night bs ≡ refusedLine (s .number) (s .place)
-  listing-stop s e = listing-step (Next.Stopped s) e
+  pub listing-stop : {number place : ℕ} → nextOf (night .line) bs ≡ stop number place → listingFrom (suc steps) night bs ≡ refusedLine number place
+  listing-stop {number} {place} e = listing-step (stop number place) e
 
 -- the night behind a breath is one of a recording too
-pub follows-real : (night : Night) → Real night → (bs : List ℕ) (entry : Entry) → nextOf (night .line) bs ≡ Next.Breath entry → Real (withLine night (entry .breath))
+pub follows-real : (night : Night) → Real night → (bs : List ℕ) (entry : Entry) → nextOf (night .line) bs ≡ done (aBreath entry) → Real (withLine night (entry .breath))
 follows-real night r bs entry e =
     let w = follows-breath (night .line) bs entry e in
     real-next night r (entry .breath) (w .0) (w .1 .small)
@@ -79,17 +68,17 @@ listing-steps zero more night bs r e = absurd (omega (arith, r .few))
 listing-steps (suc steps) more night bs r e =
     ap (λ (k : ℕ). listingFrom k night bs) (suc-add steps more) ∙ go (nextOf (night .line) bs) refl (λ n rest i h. listing-steps steps more n rest i h)
   where
-    go : (x : Next) → nextOf (night .line) bs ≡ x
+    go : (x : Outcome Coming) → nextOf (night .line) bs ≡ x
         → ((n : Night) (rest : List ℕ) → Real n → n .line + steps ≡ 65538 → listingFrom (steps + more) n rest ≡ listingFrom steps n rest)
         → listingFrom (suc (steps + more)) night bs ≡ listingFrom (suc steps) night bs
-    go (Next.Breath entry) n ih =
+    go (done (aBreath entry)) n ih =
         let b : Breath = entry .breath in
         let number : withLine night b .line + steps ≡ 65538 = omega (arith, line-suc night b) in
         listing-more (steps + more) night bs entry n
         ∙ ap (λ (u : List ℕ). breathLine (night .breath) b ++ u) (ih (withLine night b) (drop (entry .used) bs) (follows-real night r bs entry n) number)
         ∙ sym (listing-more steps night bs entry n)
-    go Next.End n ih = listing-end (steps + more) night bs n ∙ sym (listing-end steps night bs n)
-    go (Next.Stopped s) n ih = listing-stop (steps + more) night bs s n ∙ sym (listing-stop steps night bs s n)
+    go (done theEnd) n ih = listing-end (steps + more) night bs n ∙ sym (listing-end steps night bs n)
+    go (stop number place) n ih = listing-stop (steps + more) night bs n ∙ sym (listing-stop steps night bs n)
 
 -- ---- how long it is
 
@@ -108,21 +97,19 @@ lines-length : (steps : ℕ) (night : Night) (bs : List ℕ) → Real night → 
 lines-length zero night bs r e = absurd (omega (arith, r .few))
 lines-length (suc steps) night bs r e = go (nextOf (night .line) bs) refl (λ n rest i h. lines-length steps n rest i h)
   where
-    go : (x : Next) → nextOf (night .line) bs ≡ x
+    go : (x : Outcome Coming) → nextOf (night .line) bs ≡ x
         → ((n : Night) (rest : List ℕ) → Real n → n .line + steps ≡ 65538 → 2 + length (listingFrom steps n rest) ≤ 33 * steps)
         → 2 + length (listingFrom (suc steps) night bs) ≤ 33 * suc steps
-    go (Next.Breath entry) n ih =
+    go (done (aBreath entry)) n ih =
         let b : Breath = entry .breath in
         let rest : List ℕ = listingFrom steps (withLine night b) (drop (entry .used) bs) in
         let behind = ih (withLine night b) (drop (entry .used) bs) (follows-real night r bs entry n) (omega (arith, line-suc night b)) in
         omega (arith, ap length (listing-more steps night bs entry n), length-append (breathLine (night .breath) b) rest, line-length night r b, behind)
-    go Next.End n ih = omega (arith, ap length (listing-end steps night bs n), last-length (night .sums) (r .proper))
-    go (Next.Stopped s) n ih =
-        let w = follows-stop (night .line) bs s n in
-        let short : length (refusedLine (s .number) (s .place)) ≤ 17 =
-        refused-length (s .number) (s .place) 1 4 (omega (arith, w .1)) (omega (arith, w .2, r .few))
-        in
-        omega (arith, ap length (listing-stop steps night bs s n), short)
+    go (done theEnd) n ih = omega (arith, ap length (listing-end steps night bs n), last-length (night .sums) (r .proper))
+    go (stop number place) n ih =
+        let w = follows-stop (night .line) bs n in
+        let short : length (refusedLine number place) ≤ 17 = refused-length number place 1 4 (omega (arith, w .1)) (omega (arith, w .2, r .few)) in
+        omega (arith, ap length (listing-stop steps night bs n), short)
 
 pub listing-length : (bs : List ℕ) → length (listingOf bs) ≤ 2162719
 unfolding listingOf listingOn
@@ -165,11 +152,11 @@ listing-lines (suc steps) night bs r e = go (nextOf (night .line) bs) refl (λ n
         → listingFrom (suc steps) night bs ≡ linesOf night (breathsFrom (suc steps) (night .line) bs) (checkFrom (suc steps) (night .line) bs)
     from-as breaths o b d l = l ∙ ap (λ (x : List Breath). linesOf night x o) (sym b) ∙ ap (linesOf night (breathsFrom (suc steps) (night .line) bs)) (sym d)
 
-    go : (x : Next) → nextOf (night .line) bs ≡ x
+    go : (x : Outcome Coming) → nextOf (night .line) bs ≡ x
         → ((n : Night) (rest : List ℕ) → Real n → n .line + steps ≡ 65538
         → listingFrom steps n rest ≡ linesOf n (breathsFrom steps (n .line) rest) (checkFrom steps (n .line) rest))
         → listingFrom (suc steps) night bs ≡ linesOf night (breathsFrom (suc steps) (night .line) bs) (checkFrom (suc steps) (night .line) bs)
-    go (Next.Breath entry) n ih =
+    go (done (aBreath entry)) n ih =
         let b : Breath = entry .breath in
         let rest : List ℕ = drop (entry .used) bs in
         let breaths : List Breath = breathsFrom steps (suc (night .line)) rest in
@@ -181,12 +168,12 @@ listing-lines (suc steps) night bs r e = go (nextOf (night .line) bs) refl (λ n
         (ih behind rest (follows-real night r bs entry n) (omega (arith, line-suc night b))
         ∙ ap (λ (k : ℕ). linesOf behind (breathsFrom steps k rest) (checkFrom steps k rest)) (line-suc night b))
         ∙ lines-some night b breaths o)
-    go Next.End n ih =
+    go (done theEnd) n ih =
         from-as [] (done tt) (breaths-end steps (night .line) bs n) (check-end steps (night .line) bs n)
         (listing-end steps night bs n ∙ last-done (night .sums) ∙ lines-none night (done tt))
-    go (Next.Stopped s) n ih =
-        from-as [] (stop (s .number) (s .place)) (breaths-stop steps (night .line) bs s n) (check-stop steps (night .line) bs s n)
-        (listing-stop steps night bs s n ∙ last-stop (night .sums) (s .number) (s .place) ∙ lines-none night (stop (s .number) (s .place)))
+    go (stop number place) n ih =
+        from-as [] (stop number place) (breaths-stop steps (night .line) bs n) (check-stop steps (night .line) bs n)
+        (listing-stop steps night bs n ∙ last-stop (night .sums) number place ∙ lines-none night (stop number place))
 
 -- A listing is the numbered lines of the recording's breaths, and then `all` of their sums, or `refused`.
 pub listing-breaths : (bs : List ℕ) → listingOf bs ≡ numbered 1 (breathsIn bs) ++ lastLine (sumsOf (breathsIn bs)) (recordingCheck bs)

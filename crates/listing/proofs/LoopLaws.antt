@@ -7,6 +7,7 @@ use native.Mathlib.Omega.{arith}
 use native.Mathlib.Nat.{add-zero, zero-add, suc-add, add-assoc, sub-zero}
 use lib.ListN.{length, take, drop, length-drop}
 use lib.Seq.{drop-drop}
+use Rattle.slash.specs.Answers.{Stops}
 use Rattle.slash.specs.declared.answer.Stop.{Stop}
 use Rattle.breaths.specs.Breaths.{breathRatio, nightRatio}
 use Rattle.breaths.specs.declared.breath.Breath.{Breath}
@@ -18,14 +19,14 @@ use Rattle.text.specs.declared.line.Name.{Name}
 use Rattle.text.specs.declared.line.Name.the-variants.{Number, All}
 use Rattle.text.proofs.NumberLaws.{put-front, store-none, stored-length, stored-as, chain}
 use Rattle.text.proofs.LineLaws.{number-name, shown-is, line-is, text-within}
-use Rattle.recording.specs.Reading.{nextOf}
+use Rattle.recording.specs.Reading.{nextOutcome, nextOf}
 use Rattle.recording.specs.declared.line.Entry.{Entry}
 use Rattle.recording.specs.declared.reading.Next.{Next}
 use Rattle.recording.specs.declared.reading.Next.the-variants as Next
 use Rattle.recording.proofs.LineLaws.{Whole, tail-is}
 use Rattle.recording.proofs.ReadingLaws.{follows-breath}
 use Rattle.listing.specs.Listing.{breathLine, allLine, withLine}
-use Rattle.listing.specs.Pieces.{isNight, Listed, heldBack, stay, onward, isSure, pieceFrom, pieceOf, answerOf, Stops}
+use Rattle.listing.specs.Pieces.{isNight, endOutcome, Listed, heldBack, stay, onward, isSure, pieceFrom, pieceOf, answerOf}
 use Rattle.listing.specs.declared.night.Night.{Night}
 use Rattle.listing.specs.declared.piece.End.{End}
 use Rattle.listing.specs.declared.piece.End.the-variants.{Open, Closed, Refused, NoNight}
@@ -160,8 +161,8 @@ module _ {bs : List ℕ} {last : Bool} {o : List ℕ} {night : Night} {o′ : Li
         → Stored o′ at (lineIn (length o′ - at) name r) o″ k → Stored o′ at (lineOf name r) o″ k
     line-here name r n s w = stored-as (sym (line-is o′ at name r room n s)) w
 
-    module _ (x : Next) (xe : x ≡ nextOf (next .line) (take (length bs - from) (drop from bs))) where
-      next-here : nextOf (next .line) (drop from bs) ≡ x
+    module _ (x : Next) (xe : nextOutcome x ≡ nextOf (next .line) (take (length bs - from) (drop from bs))) where
+      next-here : nextOf (next .line) (drop from bs) ≡ nextOutcome x
       next-here = sym (xe ∙ ap (nextOf (next .line)) (tail-is from bs))
 
       pub piecing-closed : x ≡ Next.End → (r : Ratio) → r ≡ nightRatio (next .sums) → {o″ : List ℕ} {k : ℕ}
@@ -171,7 +172,7 @@ module _ {bs : List ℕ} {last : Bool} {o : List ℕ} {night : Night} {o′ : Li
           let shown : isShown r ≡ true = ap isShown e ∙ shown-is _ (night-shown (next .sums) (i .real .proper)) in
           let s : Stored o′ at (allLine (next .sums)) o″ k = stored-as (ap (lineOf All) e ∙ all-line (next .sums)) (line-here All r all-name shown w) in
           answered (allLine (next .sums)) Closed Closed (held-closed from)
-          (pieces-end (65537 - next .line) next (drop from bs) last (length o - at) sure (next-here ∙ d))
+          (pieces-end (65537 - next .line) next (drop from bs) last (length o - at) sure (next-here ∙ ap nextOutcome d))
           (chain (i .stored) s)
           (omega (arith, s .next, last-length (next .sums) (i .real .proper), room, piecing-long))
 
@@ -179,13 +180,13 @@ module _ {bs : List ℕ} {last : Bool} {o : List ℕ} {night : Night} {o′ : Li
           → Answers (pieceOf night bs last (length o)) o o′ (record { used = from; length = at; night = next; end = end })
       piecing-stopped s d end e =
           answered [] (Refused s) end e
-          (pieces-stop (65537 - next .line) next (drop from bs) last (length o - at) sure s (next-here ∙ d))
+          (pieces-stop (65537 - next .line) next (drop from bs) last (length o - at) sure (next-here ∙ ap nextOutcome d))
           (chain (i .stored) (store-none o′ at))
           (i .fits)
 
       module _ (entry : Entry) (d : x ≡ Next.Breath entry) where
         follows : (next .line ≤ 65536) × Whole (drop from bs) entry
-        follows = follows-breath (next .line) (drop from bs) entry (next-here ∙ d)
+        follows = follows-breath (next .line) (drop from bs) entry (next-here ∙ ap nextOutcome d)
 
         pub piecing-used : (1 ≤ entry .used) × (from + entry .used ≤ length bs)
         piecing-used = (omega (arith, follows .1 .ended), omega (arith, follows .1 .within, length-drop from bs))
@@ -203,13 +204,13 @@ module _ {bs : List ℕ} {last : Bool} {o : List ℕ} {night : Night} {o′ : Li
             let left : length o - at - length line ≡ length o - k = omega (arith, s .next) in
             let l : ℕ → List ℕ → ℕ → Listed = λ n rest m. pieceFrom n behind rest last m in
             record {
-              real = follows-real next (i .real) (drop from bs) entry (next-here ∙ d);
+              real = follows-real next (i .real) (drop from bs) entry (next-here ∙ ap nextOutcome d);
               within = piecing-used .1;
               fits = omega (arith, s .next, room, piecing-long, line-length next (i .real) b);
               text = i .text ++ line;
               stored = chain (i .stored) s;
               total =
-                  here _ (pieces-more (65537 - next .line) next (drop from bs) last (length o - at) sure entry (next-here ∙ d))
+                  here _ (pieces-more (65537 - next .line) next (drop from bs) last (length o - at) sure entry (next-here ∙ ap nextOutcome d))
                   ∙ onward-onward (i .text) line from (entry .used) (l (65537 - next .line) (drop (entry .used) (drop from bs)) (length o - at - length line))
                   ∙ ap (λ (n : ℕ). onward (i .text ++ line) (from + entry .used) (l n (drop (entry .used) (drop from bs)) (length o - at - length line))) steps
                   ∙ ap (λ (u : List ℕ). onward (i .text ++ line) (from + entry .used) (l (65538 - behind .line) u (length o - at - length line))) (drop-drop (entry .used) from bs)
@@ -235,10 +236,14 @@ unfolding pieceOf stay answerOf
 piece-none night bs last o e = rw (e) (refl, refl)
 
 pub piece-untouched : (night : Night) (bs : List ℕ) (last : Bool) (o o′ : List ℕ) (p : Piece) → Answers (pieceOf night bs last (length o)) o o′ p
-    → Stops (p .end) → o′ ≡ o
+    → Stops (endOutcome (p .end)) → o′ ≡ o
 unfolding answerOf
 piece-untouched night bs last o o′ p a h =
-    a .1 ∙ ap (λ (t : List ℕ). atStart t o) (piece-refusing night bs last (length o) (subst (λ (q : Piece). Stops (q .end)) (a .0) h))
+    a .1 ∙ ap (λ (t : List ℕ). atStart t o) (piece-refusing night bs last (length o) (subst (λ (q : Piece). Stops (endOutcome (q .end))) (a .0) h))
+
+pub piece-ended : (l : Listed) (p : Piece) → p ≡ answerOf l → endOutcome (p .end) ≡ endOutcome (l .end)
+unfolding answerOf
+piece-ended l p e = ap (λ (q : Piece). endOutcome (q .end)) e
 
 pub held-none : (used : ℕ) (s : Stop) → used ≡ 0 → Refused s ≡ heldBack used (Refused s)
 unfolding heldBack
@@ -261,9 +266,9 @@ module _ (night : Night) (bs : List ℕ) (last : Bool) (o o′ : List ℕ) (p : 
       let behind : p .night ≡ l .night = ap (λ (q : Piece). q .night) (a .0) in
       (omega (arith, s .used), text-within (l .text) o o′ (p .length) (ap (λ (q : Piece). q .length) (a .0)) (a .1), ap isNight behind ∙ real-night (l .night) (s .real))
 
-  pub piece-stops : StopIn (p .night) (p .end)
+  pub piece-stops : StopIn (p .night) (endOutcome (p .end))
   unfolding answerOf
-  piece-stops = subst (λ (q : Piece). StopIn (q .night) (q .end)) (sym (a .0)) (piece-sound night bs last (length o) e .stops)
+  piece-stops = subst (λ (q : Piece). StopIn (q .night) (endOutcome (q .end))) (sym (a .0)) (piece-sound night bs last (length o) e .stops)
 
   pub piece-goes-on : 33 ≤ length o → p .end ≡ Open → GoesOn (night .line) bs last (p .used) (p .night .line)
   unfolding answerOf

@@ -6,13 +6,15 @@ use native.Mathlib.Omega.{arith}
 use native.Mathlib.Numerals.{add-one}
 use lib.Dec.{eqb, leb}
 use borrow.Author.Tests.{le-leb, leb-true, eq-eqb, eqb-true}
-use Rattle.breaths.specs.Breaths.{withBreath, oneMore}
+use Rattle.slash.specs.Answers.{done}
+use Rattle.slash.proofs.AnswerLaws.{done-inj, no-stop}
+use Rattle.breaths.specs.Breaths.{withBreath, addedOutcome, oneMore}
 use Rattle.breaths.specs.Shown.{Proper}
 use Rattle.breaths.specs.declared.breath.Breath.{Breath}
 use Rattle.breaths.specs.declared.breath.Sums.{Sums}
 use Rattle.breaths.specs.declared.breath.Added.{Added}
 use Rattle.breaths.specs.declared.breath.Added.the-variants.{Done, Full}
-use Rattle.breaths.proofs.SumLaws.{sum-bounds, sum-proper, more-done, added-inj, added-full}
+use Rattle.breaths.proofs.SumLaws.{sum-bounds, sum-proper, more-done}
 use Rattle.listing.specs.Listing.{begun, withLine}
 use Rattle.listing.specs.Pieces.{isNight}
 use Rattle.listing.specs.declared.night.Night.{Night}
@@ -75,23 +77,23 @@ module _ (night : Night) (r : Real night) where
       }
 
   -- no sum runs out of room
-  pub night-fits : (b : Breath) → b .whole < 2 ^ 32 → oneMore (night .sums) b ≡ Done (withBreath (night .sums) b)
+  pub night-fits : (b : Breath) → b .whole < 2 ^ 32 → oneMore (night .sums) b ≡ done (withBreath (night .sums) b)
   night-fits b h =
       let p : Proper (withBreath (night .sums) b) = sum-proper (night .sums) b (r .proper) in
       let w : withBreath (night .sums) b .whole < 2 ^ 64 = omega (arith, r .small, r .few, r .some, sum-bounds (night .sums) b) in
       more-done (night .sums) b (omega (arith, p, w)) w
 
 -- what the function answers
-module _ (night : Night) (e : isNight night ≡ true) (b : Breath) (h : b .whole < 2 ^ 32) (a : Added) (ae : a ≡ oneMore (night .sums) b) where
-  added : a ≡ Done (withBreath (night .sums) b)
+module _ (night : Night) (e : isNight night ≡ true) (b : Breath) (h : b .whole < 2 ^ 32) (a : Added) (ae : addedOutcome a ≡ oneMore (night .sums) b) where
+  added : addedOutcome a ≡ done (withBreath (night .sums) b)
   added = ae ∙ night-fits night (night-real night e) b h
 
   pub with-line : (s : Sums) → a ≡ Done s → record { line = night .line + 1; breath = night .breath + 1; sums = s } ≡ withLine night b
   unfolding withLine
-  with-line s d = rw (added-inj s _ (sym d ∙ added), add-one (night .line), add-one (night .breath)) refl
+  with-line s d = rw (done-inj (sym (ap addedOutcome d) ∙ added), add-one (night .line), add-one (night .breath)) refl
 
   pub never-full : a ≡ Full → ⊥
-  never-full d = added-full _ (sym d ∙ added)
+  never-full d = no-stop (sym (ap addedOutcome d) ∙ added)
 
 pub line-suc : (night : Night) (b : Breath) → withLine night b .line ≡ suc (night .line)
 unfolding withLine

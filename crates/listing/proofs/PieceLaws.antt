@@ -10,18 +10,16 @@ use lib.Dec.{leb, ltb}
 use lib.ListN.{length, drop, length-append, length-drop}
 use lib.Seq.{drop-append-le, drop-drop}
 use borrow.Author.Tests.{leb-true, ltb-true, ltb-false, le-leb, lt-leb}
-use Rattle.slash.specs.declared.answer.Stop.{Stop}
+use Rattle.slash.specs.Answers.{Outcome, stop, done, Stops}
 use Rattle.breaths.specs.declared.breath.Breath.{Breath}
 use Rattle.text.specs.Parts.{lengthBefore}
 use Rattle.text.specs.Lines.{refusedLine}
 use Rattle.text.proofs.FindLaws.{before-le}
-use Rattle.recording.specs.Reading.{nextOf}
+use Rattle.recording.specs.Reading.{Coming, aBreath, theEnd, nextOf}
 use Rattle.recording.specs.declared.line.Entry.{Entry}
-use Rattle.recording.specs.declared.reading.Next.{Next}
-use Rattle.recording.specs.declared.reading.Next.the-variants as Next
 use Rattle.recording.proofs.ReadingLaws.{Ready, StopAt, follows-breath, follows-stop, next-ready}
 use Rattle.listing.specs.Listing.{breathLine, allLine, withLine, listingFrom, listingOn}
-use Rattle.listing.specs.Pieces.{isNight, Listed, heldBack, stay, onward, isSure, pieceFrom, pieceOf, goesOn, restOf, MakesListing, Stops}
+use Rattle.listing.specs.Pieces.{isNight, endOutcome, Listed, heldBack, stay, onward, isSure, pieceFrom, pieceOf, goesOn, restOf, MakesListing}
 use Rattle.listing.specs.declared.night.Night.{Night}
 use Rattle.listing.specs.declared.piece.End.{End}
 use Rattle.listing.specs.declared.piece.End.the-variants.{Open, Closed, Refused, NoNight}
@@ -92,10 +90,14 @@ module _ (steps : ℕ) (night : Night) (bs : List ℕ) (last : Bool) (room : ℕ
       onward (breathLine (night .breath) (entry .breath)) (entry .used)
       (pieceFrom steps (withLine night (entry .breath)) (drop (entry .used) bs) last (room - length (breathLine (night .breath) (entry .breath))))
 
-  surely : Next → Listed
-  surely (Next.Breath entry) = further entry
-  surely Next.End = stay night (allLine (night .sums)) Closed
-  surely (Next.Stopped s) = stay night [] (Refused s)
+  -- a stop at the next line
+  abbrev pub refusedWith : (number place : ℕ) → Listed
+  refusedWith number place = stay night [] (Refused (record { number = number; place = place }))
+
+  surely : Outcome Coming → Listed
+  surely (done (aBreath entry)) = further entry
+  surely (done theEnd) = stay night (allLine (night .sums)) Closed
+  surely (stop number place) = refusedWith number place
 
   pieces-step : (t : Bool) → isSure bs last room ≡ t → pieceFrom (suc steps) night bs last room ≡ elim t [ true ↦ surely (nextOf (night .line) bs) | false ↦ stay night [] Open ]
   unfolding pieceFrom surely
@@ -105,34 +107,34 @@ module _ (steps : ℕ) (night : Night) (bs : List ℕ) (last : Bool) (room : ℕ
   pieces-open f = pieces-step false f
 
   module _ (sure : isSure bs last room ≡ true) where
-    surely-is : (x : Next) → nextOf (night .line) bs ≡ x → pieceFrom (suc steps) night bs last room ≡ surely x
+    surely-is : (x : Outcome Coming) → nextOf (night .line) bs ≡ x → pieceFrom (suc steps) night bs last room ≡ surely x
     surely-is x e = pieces-step true sure ∙ ap surely e
 
-    pub pieces-more : (entry : Entry) → nextOf (night .line) bs ≡ Next.Breath entry → pieceFrom (suc steps) night bs last room ≡ further entry
+    pub pieces-more : (entry : Entry) → nextOf (night .line) bs ≡ done (aBreath entry) → pieceFrom (suc steps) night bs last room ≡ further entry
     unfolding surely
-    pieces-more entry e = surely-is (Next.Breath entry) e
+    pieces-more entry e = surely-is (done (aBreath entry)) e
 
-    pub pieces-end : nextOf (night .line) bs ≡ Next.End → pieceFrom (suc steps) night bs last room ≡ stay night (allLine (night .sums)) Closed
+    pub pieces-end : nextOf (night .line) bs ≡ done theEnd → pieceFrom (suc steps) night bs last room ≡ stay night (allLine (night .sums)) Closed
     unfolding surely
-    pieces-end e = surely-is Next.End e
+    pieces-end e = surely-is (done theEnd) e
 
-    pub pieces-stop : (s : Stop) → nextOf (night .line) bs ≡ Next.Stopped s → pieceFrom (suc steps) night bs last room ≡ stay night [] (Refused s)
+    pub pieces-stop : {number place : ℕ} → nextOf (night .line) bs ≡ stop number place → pieceFrom (suc steps) night bs last room ≡ refusedWith number place
     unfolding surely
-    pieces-stop s e = surely-is (Next.Stopped s) e
+    pieces-stop {number} {place} e = surely-is (stop number place) e
 
   -- what holds in each case holds of the piece
   pub pieces-case : (P : Listed → Type 0) → (isSure bs last room ≡ false → P (stay night [] Open))
-      → (isSure bs last room ≡ true → (entry : Entry) → nextOf (night .line) bs ≡ Next.Breath entry → P (further entry))
-      → (isSure bs last room ≡ true → nextOf (night .line) bs ≡ Next.End → P (stay night (allLine (night .sums)) Closed))
-      → (isSure bs last room ≡ true → (s : Stop) → nextOf (night .line) bs ≡ Next.Stopped s → P (stay night [] (Refused s)))
+      → (isSure bs last room ≡ true → (entry : Entry) → nextOf (night .line) bs ≡ done (aBreath entry) → P (further entry))
+      → (isSure bs last room ≡ true → nextOf (night .line) bs ≡ done theEnd → P (stay night (allLine (night .sums)) Closed))
+      → (isSure bs last room ≡ true → (number place : ℕ) → nextOf (night .line) bs ≡ stop number place → P (refusedWith number place))
       → P (pieceFrom (suc steps) night bs last room)
   pieces-case P opened more ended stopped = go (isSure bs last room) refl (nextOf (night .line) bs) refl
     where
-      go : (t : Bool) → isSure bs last room ≡ t → (x : Next) → nextOf (night .line) bs ≡ x → P (pieceFrom (suc steps) night bs last room)
+      go : (t : Bool) → isSure bs last room ≡ t → (x : Outcome Coming) → nextOf (night .line) bs ≡ x → P (pieceFrom (suc steps) night bs last room)
       go false t x n = subst P (sym (pieces-open t)) (opened t)
-      go true t (Next.Breath entry) n = subst P (sym (pieces-more t entry n)) (more t entry n)
-      go true t Next.End n = subst P (sym (pieces-end t n)) (ended t n)
-      go true t (Next.Stopped s) n = subst P (sym (pieces-stop t s n)) (stopped t s n)
+      go true t (done (aBreath entry)) n = subst P (sym (pieces-more t entry n)) (more t entry n)
+      go true t (done theEnd) n = subst P (sym (pieces-end t n)) (ended t n)
+      go true t (stop number place) n = subst P (sym (pieces-stop t n)) (stopped t number place n)
 
 pub piece-is : (night : Night) (bs : List ℕ) (last : Bool) (room : ℕ) → isNight night ≡ true
     → pieceOf night bs last room ≡ pieceFrom (65538 - night .line) night bs last room
@@ -161,16 +163,16 @@ pub record Refusing (start : Night) (l : Listed) : Type 0 where
   pub used : l .used ≡ 0
   pub night : l .night ≡ start
 
-held-not : (used : ℕ) (end : End) → 1 ≤ used → Stops (heldBack used end) → ⊥
+held-not : (used : ℕ) (end : End) → 1 ≤ used → Stops (endOutcome (heldBack used end)) → ⊥
 unfolding heldBack
 held-not zero end h e = absurd (omega arith)
 held-not (suc n) Open h e = e
 held-not (suc n) Closed h e = e
-held-not (suc n) (Refused stop) h e = e
+held-not (suc n) (Refused s) h e = e
 held-not (suc n) NoNight h e = e
 
 abbrev IfStops : Night → Listed → Type 0
-IfStops night l = Stops (l .end) → Refusing night l
+IfStops night l = Stops (endOutcome (l .end)) → Refusing night l
 
 refusing-stay : (night : Night) (end : End) → IfStops night (stay night [] end)
 unfolding stay
@@ -192,50 +194,51 @@ refusing (suc steps) night bs last room =
     (λ t. refusing-stay night Open)
     (λ t entry n. further-refusing t entry n)
     (λ t n. closed-stay night (allLine (night .sums)))
-    (λ t s n. refusing-stay night (Refused s))
+    (λ t number place n. refusing-stay night _)
   where
-    further-refusing : isSure bs last room ≡ true → (entry : Entry) → nextOf (night .line) bs ≡ Next.Breath entry → IfStops night (further steps night bs last room entry)
+    further-refusing : isSure bs last room ≡ true → (entry : Entry) → nextOf (night .line) bs ≡ done (aBreath entry) → IfStops night (further steps night bs last room entry)
     further-refusing t entry n = refusing-onward night _ (entry .used) _ (omega (arith, follows-breath (night .line) bs entry n .1 .ended))
 
-pub piece-refusing : (night : Night) (bs : List ℕ) (last : Bool) (room : ℕ) → Stops (pieceOf night bs last room .end) → pieceOf night bs last room .text ≡ []
+pub piece-refusing : (night : Night) (bs : List ℕ) (last : Bool) (room : ℕ) → Stops (endOutcome (pieceOf night bs last room .end)) → pieceOf night bs last room .text ≡ []
 piece-refusing night bs last room h =
     piece-case (IfStops night) night bs last room (λ e. refusing (65538 - night .line) night bs last room) (refusing-stay night NoNight) h .text
 
 -- ---- the pieces make the listing
 
-open-rest : (night : Night) (bs : List ℕ) (steps : ℕ) → steps ≡ 65538 - night .line → listingFrom steps night bs ≡ goesOn Open night bs
+open-rest : (night : Night) (bs : List ℕ) (steps : ℕ) → steps ≡ 65538 - night .line → listingFrom steps night bs ≡ goesOn (done false) night bs
 unfolding goesOn listingOn
 open-rest night bs steps e = ap (λ (k : ℕ). listingFrom k night bs) e
 
-refusing-rest : (night : Night) (l : Listed) (bs more : List ℕ) → Refusing night l → goesOn Open night (bs ++ more) ≡ l .text ++ goesOn Open (l .night) (drop (l .used) bs ++ more)
+refusing-rest : (night : Night) (l : Listed) (bs more : List ℕ) → Refusing night l → goesOn (done false) night (bs ++ more) ≡ l .text ++ goesOn (done false) (l .night) (drop (l .used) bs ++ more)
 refusing-rest night l bs more r = rw (r .text, r .used, r .night) refl
 
 -- what a piece goes on with is what its last step does: a stop that it holds back is the next piece's
 onward-rest : (x : List ℕ) (line : List ℕ) (used : ℕ) (l : Listed) (bs more : List ℕ) → x ≡ l .text ++ restOf l (drop used bs) more
-    → (Stops (l .end) → x ≡ l .text ++ goesOn Open (l .night) (drop (l .used) (drop used bs) ++ more))
+    → (Stops (endOutcome (l .end)) → x ≡ l .text ++ goesOn (done false) (l .night) (drop (l .used) (drop used bs) ++ more))
     → line ++ x ≡ onward line used l .text ++ restOf (onward line used l) bs more
 unfolding restOf onward heldBack
 onward-rest x line used l bs more e held =
     ap (λ (u : List ℕ). line ++ u)
-    (go used (l .end) e held ∙ ap (λ (u : List ℕ). l .text ++ goesOn (heldBack used (l .end)) (l .night) (u ++ more)) (drop-drop (l .used) used bs))
+    (go used (l .end) e held ∙ ap (λ (u : List ℕ). l .text ++ goesOn (endOutcome (heldBack used (l .end))) (l .night) (u ++ more)) (drop-drop (l .used) used bs))
     ∙ sym (append-assoc line (l .text) (restOf (onward line used l) bs more))
   where
     left : List ℕ
     left = drop (l .used) (drop used bs) ++ more
 
-    go : (n : ℕ) (end : End) → x ≡ l .text ++ goesOn end (l .night) left → (Stops end → x ≡ l .text ++ goesOn Open (l .night) left)
-        → x ≡ l .text ++ goesOn (heldBack n end) (l .night) left
+    go : (n : ℕ) (end : End) → x ≡ l .text ++ goesOn (endOutcome end) (l .night) left
+        → (Stops (endOutcome end) → x ≡ l .text ++ goesOn (done false) (l .night) left)
+        → x ≡ l .text ++ goesOn (endOutcome (heldBack n end)) (l .night) left
     go zero end e h = e
     go (suc n) Open e h = e
     go (suc n) Closed e h = e
-    go (suc n) (Refused stop) e h = h tt
+    go (suc n) (Refused s) e h = h tt
     go (suc n) NoNight e h = h tt
 
 module _ (more : List ℕ) (last : Bool) (ends : last ≡ true → more ≡ []) where
   abbrev Goes : (bs : List ℕ) → List ℕ → Listed → Type 0
   Goes bs text l = text ≡ l .text ++ restOf l bs more
 
-  goes-open : (night : Night) (bs text : List ℕ) → text ≡ goesOn Open night (bs ++ more) → Goes bs text (stay night [] Open)
+  goes-open : (night : Night) (bs text : List ℕ) → text ≡ goesOn (done false) night (bs ++ more) → Goes bs text (stay night [] Open)
   unfolding stay restOf
   goes-open night bs text e = e
 
@@ -243,9 +246,10 @@ module _ (more : List ℕ) (last : Bool) (ends : last ≡ true → more ≡ []) 
   unfolding stay restOf goesOn
   goes-closed night bs text = sym (append-nil text)
 
-  goes-stopped : (night : Night) (bs text : List ℕ) (s : Stop) → text ≡ refusedLine (s .number) (s .place) → Goes bs text (stay night [] (Refused s))
+  goes-stopped : (night : Night) (bs text : List ℕ) (number place : ℕ) → text ≡ refusedLine number place
+      → Goes bs text (stay night [] (Refused (record { number = number; place = place })))
   unfolding stay restOf goesOn
-  goes-stopped night bs text s e = e
+  goes-stopped night bs text number place e = e
 
   goes : (steps : ℕ) (night : Night) (bs : List ℕ) (room : ℕ) → Real night → night .line + steps ≡ 65538
       → Goes bs (listingFrom steps night (bs ++ more)) (pieceFrom steps night bs last room)
@@ -257,12 +261,12 @@ module _ (more : List ℕ) (last : Bool) (ends : last ≡ true → more ≡ []) 
       (goes steps (withLine night (entry .breath)) (drop (entry .used) bs) (room - length (breathLine (night .breath) (entry .breath)))
       (follows-real night r bs entry n) (omega (arith, line-suc night (entry .breath), e))))
       (λ t n. subst (λ (u : List ℕ). Goes bs u (stay night (allLine (night .sums)) Closed)) (sym (listing-end steps night (bs ++ more) (after t ∙ n))) (goes-closed night bs (allLine (night .sums))))
-      (λ t s n. goes-stopped night bs _ s (listing-stop steps night (bs ++ more) s (after t ∙ n)))
+      (λ t number place n. goes-stopped night bs _ number place (listing-stop steps night (bs ++ more) (after t ∙ n)))
     where
       after : isSure bs last room ≡ true → nextOf (night .line) (bs ++ more) ≡ nextOf (night .line) bs
       after t = sure-next (night .line) bs more last room ends t
 
-      further-goes : isSure bs last room ≡ true → (entry : Entry) → nextOf (night .line) bs ≡ Next.Breath entry
+      further-goes : isSure bs last room ≡ true → (entry : Entry) → nextOf (night .line) bs ≡ done (aBreath entry)
           → Goes (drop (entry .used) bs) (listingFrom steps (withLine night (entry .breath)) (drop (entry .used) bs ++ more))
           (pieceFrom steps (withLine night (entry .breath)) (drop (entry .used) bs) last (room - length (breathLine (night .breath) (entry .breath))))
           → Goes bs (listingFrom (suc steps) night (bs ++ more)) (further steps night bs last room entry)
@@ -272,7 +276,7 @@ module _ (more : List ℕ) (last : Bool) (ends : last ≡ true → more ≡ []) 
           let rest : List ℕ = drop (entry .used) bs in
           let l : Listed = pieceFrom steps behind rest last (room - length line) in
           let number : steps ≡ 65538 - behind .line = omega (arith, line-suc night (entry .breath), e) in
-          let held : Stops (l .end) → listingFrom steps behind (rest ++ more) ≡ l .text ++ goesOn Open (l .night) (drop (l .used) rest ++ more) =
+          let held : Stops (endOutcome (l .end)) → listingFrom steps behind (rest ++ more) ≡ l .text ++ goesOn (done false) (l .night) (drop (l .used) rest ++ more) =
           λ h. open-rest behind (rest ++ more) steps number ∙ refusing-rest behind l rest more (refusing steps behind rest last (room - length line) h)
           in
           listing-more steps night (bs ++ more) entry (after t ∙ n)
@@ -296,29 +300,27 @@ makes-listing night bs last room more e ends = piece-listing night bs more last 
 -- ---- what holds of every piece
 
 -- An end of a recording: a stop is one of those that it can cause, at the line that comes next.
-abbrev pub StopIn : Night → End → Type 0
-StopIn night Open = Unit {0}
-StopIn night Closed = Unit {0}
-StopIn night (Refused stop) = StopAt (night .line) stop
-StopIn night NoNight = ⊥
+abbrev pub StopIn : Night → Outcome Bool → Type 0
+StopIn night (stop number place) = StopAt (night .line) number place
+StopIn night (done whole) = Unit {0}
 
 -- It uses no more bytes than there are, its text has room, and the night behind it and its end are those of a recording.
 pub record Sound (bs : List ℕ) (room : ℕ) (l : Listed) : Type 0 where
   pub used : l .used ≤ length bs
   pub fits : length (l .text) ≤ room
   pub real : Real (l .night)
-  pub stops : StopIn (l .night) (l .end)
+  pub stops : StopIn (l .night) (endOutcome (l .end))
 
-sound-stay : (bs : List ℕ) (room : ℕ) (night : Night) (text : List ℕ) (end : End) → Real night → length text ≤ room → StopIn night end → Sound bs room (stay night text end)
+sound-stay : (bs : List ℕ) (room : ℕ) (night : Night) (text : List ℕ) (end : End) → Real night → length text ≤ room → StopIn night (endOutcome end) → Sound bs room (stay night text end)
 unfolding stay
 sound-stay bs room night text end r h s = record { used = omega arith; fits = h; real = r; stops = s }
 
-held-stops : (night : Night) (used : ℕ) (end : End) → StopIn night end → StopIn night (heldBack used end)
+held-stops : (night : Night) (used : ℕ) (end : End) → StopIn night (endOutcome end) → StopIn night (endOutcome (heldBack used end))
 unfolding heldBack
 held-stops night zero end s = s
 held-stops night (suc n) Open s = tt
 held-stops night (suc n) Closed s = tt
-held-stops night (suc n) (Refused stop) s = tt
+held-stops night (suc n) (Refused x) s = tt
 held-stops night (suc n) NoNight s = tt
 
 sound-onward : (bs : List ℕ) (room : ℕ) (line : List ℕ) (used : ℕ) (l : Listed) → used ≤ length bs → length line ≤ room
@@ -341,9 +343,9 @@ sound (suc steps) night bs last room r =
     (λ t entry n. further-sound t entry n
     (sound steps (withLine night (entry .breath)) (drop (entry .used) bs) last (room - length (breathLine (night .breath) (entry .breath))) (follows-real night r bs entry n)))
     (λ t n. sound-stay bs room night (allLine (night .sums)) Closed r (omega (arith, sure-room bs last room t, last-length (night .sums) (r .proper))) tt)
-    (λ t s n. sound-stay bs room night [] (Refused s) r (omega arith) (follows-stop (night .line) bs s n))
+    (λ t number place n. sound-stay bs room night [] _ r (omega arith) (follows-stop (night .line) bs n))
   where
-    further-sound : isSure bs last room ≡ true → (entry : Entry) → nextOf (night .line) bs ≡ Next.Breath entry
+    further-sound : isSure bs last room ≡ true → (entry : Entry) → nextOf (night .line) bs ≡ done (aBreath entry)
         → Sound (drop (entry .used) bs) (room - length (breathLine (night .breath) (entry .breath)))
         (pieceFrom steps (withLine night (entry .breath)) (drop (entry .used) bs) last (room - length (breathLine (night .breath) (entry .breath))))
         → Sound bs room (further steps night bs last room entry)
@@ -379,7 +381,7 @@ later (suc steps) night bs last room =
     (λ t entry n. further-later entry
     (later steps (withLine night (entry .breath)) (drop (entry .used) bs) last (room - length (breathLine (night .breath) (entry .breath)))))
     (λ t n. later-stay night (allLine (night .sums)) Closed)
-    (λ t s n. later-stay night [] (Refused s))
+    (λ t number place n. later-stay night [] _)
   where
     further-later : (entry : Entry)
         → Later (withLine night (entry .breath)) (pieceFrom steps (withLine night (entry .breath)) (drop (entry .used) bs) last (room - length (breathLine (night .breath) (entry .breath))))
@@ -397,7 +399,7 @@ IfOpen night bs last l = l .end ≡ Open → GoesOn (night .line) bs last (l .us
 abbrev NotOpen : End → Type 0
 NotOpen Open = ⊥
 NotOpen Closed = Unit {0}
-NotOpen (Refused stop) = Unit {0}
+NotOpen (Refused s) = Unit {0}
 NotOpen NoNight = Unit {0}
 
 module _ (night : Night) (bs : List ℕ) (last : Bool) where
@@ -419,9 +421,9 @@ goes-on steps night bs last room h =
     (λ t. waits night bs last (unsure bs last room h t))
     (λ t entry n. further-on entry n)
     (λ t n. ends night bs last (allLine (night .sums)) Closed tt)
-    (λ t s n. ends night bs last [] (Refused s) tt)
+    (λ t number place n. ends night bs last [] _ tt)
   where
-    further-on : (entry : Entry) → nextOf (night .line) bs ≡ Next.Breath entry → IfOpen night bs last (further steps night bs last room entry)
+    further-on : (entry : Entry) → nextOf (night .line) bs ≡ done (aBreath entry) → IfOpen night bs last (further steps night bs last room entry)
     further-on entry n =
         let b : Breath = entry .breath in
         let grows = later steps (withLine night b) (drop (entry .used) bs) last (room - length (breathLine (night .breath) b)) in

@@ -5,16 +5,14 @@ use mathlib.Core.List.{List, _++_}
 use Prim.Native.Nat.{ℕ, zero, suc, _+_, _-_, _*_, _≤_}
 use native.Mathlib.Omega.{arith}
 use lib.ListN.{length, drop}
-use Rattle.slash.specs.Answers.{Outcome, stop, done, _then_, checkOutcome}
+use Rattle.slash.specs.Answers.{Outcome, stop, done, _then_, toldOutcome}
 use Rattle.slash.specs.declared.answer.Stop.{Stop}
-use Rattle.slash.specs.declared.reading.Checked.{Checked}
-use Rattle.slash.specs.declared.reading.Checked.the-variants as Checked
+use Rattle.slash.specs.declared.answer.Told.{Told}
+use Rattle.slash.specs.declared.answer.Told.the-variants as Told
 use Rattle.slash.proofs.AnswerLaws.{no-stop}
 use Rattle.breaths.specs.declared.breath.Breath.{Breath}
 use Rattle.text.specs.Stores.{atStart}
-use Rattle.recording.specs.Reading.{nextOf, checkFrom, recordingCheck}
-use Rattle.recording.specs.declared.reading.Next.{Next}
-use Rattle.recording.specs.declared.reading.Next.the-variants as Next
+use Rattle.recording.specs.Reading.{Coming, aBreath, theEnd, nextOf, checkFrom, recordingCheck}
 use Rattle.recording.proofs.ReadingLaws.{check-more, check-stop}
 use Rattle.listing.specs.Listing.{breathLine, allLine, begun, withLine, listingFrom, listingOn, listingOf}
 use Rattle.listing.specs.Nights.{nightOutcome, lengthOf, listAfter, BestNight}
@@ -49,8 +47,8 @@ whole-step steps night bs room most r h short good ih = go (nextOf (night .line)
     sure : isSure bs true room ≡ true
     sure = sym (sure-last bs true room h refl)
 
-    go : (x : Next) → nextOf (night .line) bs ≡ x → pieceFrom (suc steps) night bs true room .text ≡ listingFrom (suc steps) night bs
-    go (Next.Breath entry) n =
+    go : (x : Outcome Coming) → nextOf (night .line) bs ≡ x → pieceFrom (suc steps) night bs true room .text ≡ listingFrom (suc steps) night bs
+    go (done (aBreath entry)) n =
         let b : Breath = entry .breath in
         let line : List ℕ = breathLine (night .breath) b in
         let behind : Night = withLine night b in
@@ -63,11 +61,11 @@ whole-step steps night bs room most r h short good ih = go (nextOf (night .line)
         ∙ onward-text line (entry .used) (pieceFrom steps behind rest true left)
         ∙ ap (λ (u : List ℕ). line ++ u) (ih behind rest left (follows-real night r bs entry n) (line-suc night b) (omega (arith, short b)) still)
         ∙ sym (listing-more steps night bs entry n)
-    go Next.End n =
+    go (done theEnd) n =
         ap (λ (l : Listed). l .text) (pieces-end steps night bs true room sure n)
         ∙ stay-text night (allLine (night .sums))
         ∙ sym (listing-end steps night bs n)
-    go (Next.Stopped s) n = absurd (no-stop (sym (check-stop steps (night .line) bs s n) ∙ good))
+    go (stop number place) n = absurd (no-stop (sym (check-stop steps (night .line) bs n) ∙ good))
 
 -- 33 bytes for each line
 whole : (steps : ℕ) (night : Night) (bs : List ℕ) (room : ℕ) → Real night → night .line + steps ≡ 65538 → 33 * steps ≤ room
@@ -92,12 +90,12 @@ night-is : (bs : List ℕ) (o : Outcome (Unit {0})) → o ≡ recordingCheck bs 
 unfolding nightOutcome
 night-is bs o e = ap (λ (p : Outcome (Unit {0})). p then λ _. done (listingOf bs)) e
 
-pub list-done : (bs o o′ : List ℕ) (p : Piece) (c : Checked) → checkOutcome c ≡ recordingCheck bs → c ≡ Checked.Good → length o ≡ 2162719
+pub list-done : (bs o o′ : List ℕ) (p : Piece) (c : Told) → toldOutcome c ≡ recordingCheck bs → c ≡ Told.Done → length o ≡ 2162719
     → (night : Night) → night ≡ begun → Answers (pieceOf night bs true (length o)) o o′ p
     → (done (p .length) ≡ lengthOf (nightOutcome bs)) × ((o′ ≡ listAfter (nightOutcome bs) o) × BestNight bs)
 unfolding answerOf lengthOf listAfter
 list-done bs o o′ p c e g long night n a =
-    let good : done tt ≡ recordingCheck bs = ap checkOutcome (sym g) ∙ e in
+    let good : done tt ≡ recordingCheck bs = ap toldOutcome (sym g) ∙ e in
     let night-done : done (listingOf bs) ≡ nightOutcome bs = night-is bs (done tt) good in
     let text : pieceOf night bs true (length o) .text ≡ listingOf bs =
     ap (λ (m : ℕ). pieceOf night bs true m .text) long ∙ ap (λ (m : Night). pieceOf m bs true 2162719 .text) n ∙ whole-listing bs (sym good)
@@ -106,10 +104,10 @@ list-done bs o o′ p c e g long night n a =
       (a .1 ∙ ap (λ (t : List ℕ). atStart t o) text ∙ ap (λ (x : Outcome (List ℕ)). listAfter x o) night-done, best-night bs),
     )
 
-pub list-stopped : (bs o : List ℕ) (c : Checked) → checkOutcome c ≡ recordingCheck bs → (s : Stop) → c ≡ Checked.Stopped s
+pub list-stopped : (bs o : List ℕ) (c : Told) → toldOutcome c ≡ recordingCheck bs → (s : Stop) → c ≡ Told.Stopped s
     → (stop (s .number) (s .place) ≡ lengthOf (nightOutcome bs)) × ((o ≡ listAfter (nightOutcome bs) o) × BestNight bs)
 unfolding lengthOf listAfter
 list-stopped bs o c e s g =
-    let bad : stop (s .number) (s .place) ≡ recordingCheck bs = ap checkOutcome (sym g) ∙ e in
+    let bad : stop (s .number) (s .place) ≡ recordingCheck bs = ap toldOutcome (sym g) ∙ e in
     let night-stop : stop (s .number) (s .place) ≡ nightOutcome bs = night-is bs (stop (s .number) (s .place)) bad in
     (ap lengthOf night-stop, (ap (λ (x : Outcome (List ℕ)). listAfter x o) night-stop, best-night bs))

@@ -8,8 +8,7 @@ use Rattle.breaths.specs.declared.breath.Breath.{Breath}
 use Rattle.breaths.specs.declared.breath.Sums.{Sums}
 use Rattle.text.specs.Lines.{lineOf, refusedLine}
 use Rattle.text.specs.declared.line.Name.the-variants.{Number, All}
-use Rattle.recording.specs.Reading.{nextOf}
-use Rattle.recording.specs.declared.reading.Next.the-variants as Next
+use Rattle.recording.specs.Reading.{aBreath, theEnd, nextOf}
 use Rattle.listing.specs.declared.night.Night.{Night}
 
 -- ---- the lines
@@ -38,9 +37,9 @@ unfoldable pub listingFrom : (steps : ℕ) → Night → List ℕ → List ℕ
 listingFrom zero night bs = []
 listingFrom (suc steps) night bs =
     elim (nextOf (night .line) bs) [
-      | Next.Breath entry ↦ breathLine (night .breath) (entry .breath) ++ listingFrom steps (withLine night (entry .breath)) (drop (entry .used) bs)
-      | Next.End ↦ allLine (night .sums)
-      | Next.Stopped s ↦ refusedLine (s .number) (s .place)
+      | done (aBreath entry) ↦ breathLine (night .breath) (entry .breath) ++ listingFrom steps (withLine night (entry .breath)) (drop (entry .used) bs)
+      | done theEnd ↦ allLine (night .sums)
+      | stop number place ↦ refusedLine number place
     ]
 
 -- Line 65,537 ends every listing, so that the steps up to it are enough (proved: `listing-steps`).

@@ -6,13 +6,13 @@ use mathlib.Core.List.{List, [], _++_}
 use lib.Dec.{eqb, leb, ltb}
 use lib.ListN.{length, take, drop}
 use Rattle.convergents.specs.Choice.{if_then_else_}
+use Rattle.slash.specs.Answers.{Outcome, stop, done, unnumbered}
 use Rattle.breaths.specs.Breaths.{nightRatio, sumsOf, addSums, BestRatio, BestBreaths}
 use Rattle.breaths.specs.declared.breath.Breath.{Breath}
 use Rattle.breaths.specs.declared.breath.Sums.{Sums}
 use Rattle.text.specs.Parts.{lengthBefore}
 use Rattle.text.specs.Lines.{refusedLine}
-use Rattle.recording.specs.Reading.{nextOf, breathsOn}
-use Rattle.recording.specs.declared.reading.Next.the-variants as Next
+use Rattle.recording.specs.Reading.{aBreath, theEnd, nextOf, breathsOn}
 use Rattle.listing.specs.Listing.{breathLine, allLine, numbered, withLine, listingOn}
 use Rattle.listing.specs.declared.night.Night.{Night}
 use Rattle.listing.specs.declared.piece.End.{End}
@@ -27,6 +27,13 @@ isNight night =
     && (eqb (night .breath) (night .line)
     && (leb (night .sums .whole) ((night .line - 1) * 4294967295) && leb (night .sums .inspiration) (night .sums .whole)))
 
+-- The outcome that each end stands for: a stop; or whether the listing is whole. A night that comes of no recording is refused.
+abbrev pub endOutcome : End → Outcome Bool
+endOutcome Open = done false
+endOutcome Closed = done true
+endOutcome (Refused s) = stop (s .number) (s .place)
+endOutcome NoNight = unnumbered
+
 -- The text that is listed, how many bytes it uses, the night behind it, and whether it is the end.
 pub record Listed : Type 0 where
   pub text : List ℕ
@@ -35,13 +42,10 @@ pub record Listed : Type 0 where
   pub end : End
 
 -- A stop behind bytes that a piece used is left to the next piece, and this one is open: a piece that is refused uses and lists
--- nothing. (Behind used bytes the night is never none.)
+-- nothing.
 unfoldable pub heldBack : (used : ℕ) → End → End
 heldBack zero end = end
-heldBack (suc used) Open = Open
-heldBack (suc used) Closed = Closed
-heldBack (suc used) (Refused stop) = Open
-heldBack (suc used) NoNight = Open
+heldBack (suc used) end = elim (endOutcome end) [ stop number place ↦ Open | done whole ↦ end ]
 
 -- Nothing more is used; what is listed may be the last line.
 unfoldable pub stay : Night → List ℕ → End → Listed
@@ -63,10 +67,10 @@ pieceFrom (suc steps) night bs last room =
     elim (isSure bs last room) [
       | false ↦ stay night [] Open
       | true ↦ elim (nextOf (night .line) bs) [
-        | Next.Breath entry ↦ onward (breathLine (night .breath) (entry .breath)) (entry .used)
+        | done (aBreath entry) ↦ onward (breathLine (night .breath) (entry .breath)) (entry .used)
             (pieceFrom steps (withLine night (entry .breath)) (drop (entry .used) bs) last (room - length (breathLine (night .breath) (entry .breath))))
-        | Next.End ↦ stay night (allLine (night .sums)) Closed
-        | Next.Stopped s ↦ stay night [] (Refused s)
+        | done theEnd ↦ stay night (allLine (night .sums)) Closed
+        | stop number place ↦ stay night [] (Refused (record { number = number; place = place }))
       ]
     ]
 
@@ -78,25 +82,18 @@ pieceOf night bs last room = if isNight night then pieceFrom (65538 - night .lin
 unfoldable pub answerOf : Listed → Piece
 answerOf l = record { used = l .used; length = length (l .text); night = l .night; end = l .end }
 
--- An end that is a refusal: a stop, or a night that comes of no recording.
-abbrev pub Stops : End → Type 0
-Stops Open = ⊥
-Stops Closed = ⊥
-Stops (Refused stop) = Unit {0}
-Stops NoNight = Unit {0}
-
 -- ---- what pieces make
 
 -- What a listing goes on with behind a piece: where that is open, with the listing from its night of the bytes that it didn't use and
--- whatever follows them; where it is refused, with the line of the stop; else with nothing.
-unfoldable pub goesOn : End → Night → List ℕ → List ℕ
-goesOn Open night bs = listingOn night bs
-goesOn Closed night bs = []
-goesOn (Refused stop) night bs = refusedLine (stop .number) (stop .place)
-goesOn NoNight night bs = []
+-- whatever follows them; where it is refused, with the line of the stop; where it is whole, with nothing. (A night that comes of no
+-- recording is left out by `MakesListing`.)
+unfoldable pub goesOn : Outcome Bool → Night → List ℕ → List ℕ
+goesOn (done false) night bs = listingOn night bs
+goesOn (done true) night bs = []
+goesOn (stop number place) night bs = refusedLine number place
 
 unfoldable pub restOf : Listed → (bs more : List ℕ) → List ℕ
-restOf l bs more = goesOn (l .end) (l .night) (drop (l .used) bs ++ more)
+restOf l bs more = goesOn (endOutcome (l .end)) (l .night) (drop (l .used) bs ++ more)
 
 -- Pieces make the listing: from a night on, that of some bytes and whatever follows them is the piece's text, and then what it goes on with.
 -- (Nothing follows the last bytes.)
@@ -112,16 +109,15 @@ unfoldable pub breathsOf : Night → List ℕ → Listed → List Breath
 breathsOf night bs l = breathsOn (night .line) (take (l .used) bs)
 
 -- What stands behind their lines: `all` where the recording ends.
-unfoldable pub endText : Sums → End → List ℕ
-endText s Open = []
-endText s Closed = allLine s
-endText s (Refused stop) = []
-endText s NoNight = []
+unfoldable pub endText : Sums → Outcome Bool → List ℕ
+endText s (done false) = []
+endText s (done true) = allLine s
+endText s (stop number place) = []
 
 -- A piece's text is the numbered lines of its breaths, and `all` at the end; the sums behind it are those before it and those of its breaths; and
 -- the word of each breath that isn't void, and of all, is best for its N and D.
 pub record BestPiece (night : Night) (bs : List ℕ) (l : Listed) : Type 0 where
-  pub lines : l .text ≡ numbered (night .breath) (breathsOf night bs l) ++ endText (l .night .sums) (l .end)
+  pub lines : l .text ≡ numbered (night .breath) (breathsOf night bs l) ++ endText (l .night .sums) (endOutcome (l .end))
   pub sums : l .night .sums ≡ addSums (night .sums) (sumsOf (breathsOf night bs l))
   pub each : BestBreaths (breathsOf night bs l)
   pub all : BestRatio (l .night .sums .inspiration) (l .night .sums .whole) (nightRatio (l .night .sums))

@@ -2,10 +2,10 @@
 ghost use mathlib.Core.Path.{_≡_};
 ghost use mathlib.Core.Bool.{true};
 ghost use lib.ListN.{length};
-ghost use Rattle.slash.specs.Answers.{outcome};
+ghost use Rattle.slash.specs.Answers.{outcome, Stops};
 ghost use Rattle.text.specs.Stores.{atStart};
 ghost use Rattle.listing.specs.Nights.{nightOutcome, lengthOf, listAfter, BestNight};
-ghost use Rattle.listing.specs.Pieces.{isNight, isSure, heldBack, pieceOf, answerOf, Stops, MakesListing, BestPiece};
+ghost use Rattle.listing.specs.Pieces.{isNight, endOutcome, isSure, heldBack, pieceOf, answerOf, MakesListing, BestPiece};
 use crate::night::Night;
 use crate::night::is_night;
 use crate::night::with_line;
@@ -13,8 +13,8 @@ use recording::Next;
 use recording::check;
 use recording::next_line;
 use slash::Answer;
-use slash::Checked;
 use slash::Stop;
+use slash::Told;
 use text::Name;
 use text::length_before;
 use text::put_line;
@@ -122,9 +122,10 @@ fn put_lines(night: Night, bytes: &[u8], last: bool, out: &mut [u8]) -> Piece
 pub fn list_piece(night: Night, bytes: &[u8], last: bool, out: &mut [u8]) -> Piece
     ensures answered { λ r. ⌜ r ≡ answerOf (pieceOf night (now (bytes .entry)) last (length (now (out .entry)))) ⌝ }
     ensures stored { λ _. ⌜ now (out .exit) ≡ atStart (pieceOf night (now (bytes .entry)) last (length (now (out .entry))) .text) (now (out .entry)) ⌝ }
-    ensures untouched { λ r. ⌜ (Stops (r .end) → now (out .exit) ≡ now (out .entry)) ⌝ }
+    ensures untouched { λ r. ⌜ (Stops (endOutcome (r .end)) → now (out .exit) ≡ now (out .entry)) ⌝ }
     ensures listing { λ _. ⌜ MakesListing night (now (bytes .entry)) last (length (now (out .entry))) ⌝ }
     ensures best { λ _. ⌜ BestPiece night (now (bytes .entry)) (pieceOf night (now (bytes .entry)) last (length (now (out .entry)))) ⌝ }
+    ensures ended { λ r. ⌜ endOutcome (r .end) ≡ endOutcome (pieceOf night (now (bytes .entry)) last (length (now (out .entry))) .end) ⌝ }
 {
     if !is_night(night) {
         return Piece {
@@ -145,9 +146,9 @@ pub fn list(recording: &[u8], listing: &mut [u8; 2162719]) -> Answer
     ensures best { λ _. ⌜ BestNight (now (recording .entry)) ⌝ }
 {
     match check(recording) {
-        Checked::Good => Answer::Done(
+        Told::Done => Answer::Done(
             put_lines(Night::begun(), recording, true, listing).length as u64,
         ),
-        Checked::Stopped(stop) => Answer::Stopped(stop),
+        Told::Stopped(stop) => Answer::Stopped(stop),
     }
 }

@@ -12,7 +12,7 @@ use lib.ListN.{length, take, drop, length-append, length-take, length-drop, take
 use lib.Seq.{take-take, take-append-seam, drop-drop}
 use borrow.Author.Tests.{lt-ltb, le-ltb, eq-eqb, ne-eqb}
 use Rattle.convergents.specs.Choice.{if_then_else_}
-use Rattle.slash.specs.Answers.{Outcome, stop, done}
+use Rattle.slash.specs.Answers.{Outcome, stop, done, _then_}
 use Rattle.slash.specs.declared.answer.Stop.{Stop}
 use Rattle.breaths.specs.declared.breath.Breath.{Breath}
 use Rattle.text.specs.Parts.{lengthBefore}
@@ -21,7 +21,7 @@ use Rattle.recording.specs.Lines.{readLine}
 use Rattle.recording.specs.Starts.{Spans, nextLength}
 use Rattle.recording.specs.declared.reading.Length.{Length}
 use Rattle.recording.specs.declared.reading.Length.the-variants as Length
-use Rattle.recording.specs.Reading.{stopAt, closing, fromLine, nextOf, breathsFrom, checkFrom, recordingCheck}
+use Rattle.recording.specs.Reading.{Coming, aBreath, theEnd, nextOutcome, closing, fromLine, nextOf, breathsFrom, checkFrom, recordingCheck}
 use Rattle.recording.specs.declared.line.Entry.{Entry}
 use Rattle.recording.specs.declared.line.Line.{Line}
 use Rattle.recording.specs.declared.line.Line.the-variants as Line
@@ -31,16 +31,12 @@ use Rattle.recording.proofs.LineLaws.{Whole, Sound, line-sound, ended-l
 
 -- ---- what comes next
 
-pub stop-at-is : (line number : ℕ) → Next.Stopped (record { number = number; place = line }) ≡ stopAt line number
-unfolding stopAt
-stop-at-is line number = refl
-
 module _ (line : ℕ) where
-  pub closing-empty : line ≡ 1 → (x : Next) → x ≡ stopAt line 12 → x ≡ closing line
+  pub closing-empty : line ≡ 1 → stop 12 line ≡ closing line
   unfolding closing
-  closing-empty h x e = e ∙ rw (eq-eqb _ _ h) refl
+  closing-empty h = rw (eq-eqb _ _ h) refl
 
-  pub closing-end : (line ≡ 1 → ⊥) → Next.End ≡ closing line
+  pub closing-end : (line ≡ 1 → ⊥) → done theEnd ≡ closing line
   unfolding closing
   closing-end h = rw (ne-eqb _ _ h) refl
 
@@ -54,31 +50,31 @@ module _ (line : ℕ) (bs : List ℕ) where
       go (x ∷ l) h = absurd (omega arith)
 
   module _ (some : length bs ≡ 0 → ⊥) where
-    next-is : nextOf line bs ≡ (if ltb 65536 line then stopAt line 8 else fromLine line (readLine bs))
+    next-is : nextOf line bs ≡ (if ltb 65536 line then stop 8 line else fromLine line (readLine bs))
     unfolding nextOf
     next-is = go bs some
       where
-        go : (l : List ℕ) → (length l ≡ 0 → ⊥) → nextOf line l ≡ (if ltb 65536 line then stopAt line 8 else fromLine line (readLine l))
+        go : (l : List ℕ) → (length l ≡ 0 → ⊥) → nextOf line l ≡ (if ltb 65536 line then stop 8 line else fromLine line (readLine l))
         go [] h = absurd (h refl)
         go (x ∷ l) h = refl
 
-    pub next-over : 65536 < line → stopAt line 8 ≡ nextOf line bs
+    pub next-over : 65536 < line → stop 8 line ≡ nextOf line bs
     next-over h = sym (next-is ∙ rw (lt-ltb _ _ h) refl)
 
     pub next-line : line ≤ 65536 → fromLine line (readLine bs) ≡ nextOf line bs
     next-line h = sym (next-is ∙ rw (le-ltb _ _ h) refl)
 
     module _ (few : line ≤ 65536) (l : Line) (le : l ≡ readLine bs) where
-      pub next-read : (entry : Entry) → l ≡ Line.Read entry → Next.Breath entry ≡ nextOf line bs
+      pub next-read : (entry : Entry) → l ≡ Line.Read entry → done (aBreath entry) ≡ nextOf line bs
       unfolding fromLine
       next-read entry e = ap (fromLine line) (sym e ∙ le) ∙ next-line few
 
-      pub next-refused : (number : ℕ) → l ≡ Line.Refused number → stopAt line number ≡ nextOf line bs
+      pub next-refused : (number : ℕ) → l ≡ Line.Refused number → stop number line ≡ nextOf line bs
       unfolding fromLine
       next-refused number e = ap (fromLine line) (sym e ∙ le) ∙ next-line few
 
 -- a breath that one pass finds
-pub next-quick : (line : ℕ) → line ≤ 65536 → (bs : List ℕ) (entry : Entry) → Line.Read entry ≡ readLine bs → Next.Breath entry ≡ nextOf line bs
+pub next-quick : (line : ℕ) → line ≤ 65536 → (bs : List ℕ) (entry : Entry) → Line.Read entry ≡ readLine bs → done (aBreath entry) ≡ nextOf line bs
 next-quick line few bs entry e =
     let w : Whole bs entry = subst (Sound bs) (sym e) (line-sound bs) in
     next-read line bs (λ z. omega (arith, w .ended, w .within)) few (Line.Read entry) e entry refl
@@ -86,17 +82,16 @@ next-quick line few bs entry e =
 -- ---- what holds of it
 
 -- A stop of a recording: its number, and the line that it comes at.
-abbrev pub StopAt : (line : ℕ) → Stop → Type 0
-StopAt line s = (8 ≤ s .number) × (s .number ≤ 12) × (s .place ≡ line)
+abbrev pub StopAt : (line number place : ℕ) → Type 0
+StopAt line number place = (8 ≤ number) × (number ≤ 12) × (place ≡ line)
 
-abbrev pub Follows : (line : ℕ) → List ℕ → Next → Type 0
-Follows line bs (Next.Breath entry) = (line ≤ 65536) × Whole bs entry
-Follows line bs Next.End = Unit {0}
-Follows line bs (Next.Stopped s) = StopAt line s
+abbrev pub Follows : (line : ℕ) → List ℕ → Outcome Coming → Type 0
+Follows line bs (done (aBreath entry)) = (line ≤ 65536) × Whole bs entry
+Follows line bs (done theEnd) = Unit {0}
+Follows line bs (stop number place) = StopAt line number place
 
 module _ (line : ℕ) (bs : List ℕ) where
-  stop-follows : (number : ℕ) → 8 ≤ number → number ≤ 12 → Follows line bs (stopAt line number)
-  unfolding stopAt
+  stop-follows : (number : ℕ) → 8 ≤ number → number ≤ 12 → Follows line bs (stop number line)
   stop-follows number i j = (i, j, refl)
 
   line-follows : line ≤ 65536 → (l : Line) → Sound bs l → Follows line bs (fromLine line l)
@@ -108,7 +103,7 @@ module _ (line : ℕ) (bs : List ℕ) where
   closing-follows = go (ℕ-discrete line 1)
     where
       go : Dec (line ≡ 1) → Follows line bs (closing line)
-      go (yes h) = subst (Follows line bs) (closing-empty line h (stopAt line 12) refl) (stop-follows 12 (omega arith) (omega arith))
+      go (yes h) = subst (Follows line bs) (closing-empty line h) (stop-follows 12 (omega arith) (omega arith))
       go (no h) = subst (Follows line bs) (closing-end line h) tt
 
   pub next-follows : Follows line bs (nextOf line bs)
@@ -121,11 +116,11 @@ module _ (line : ℕ) (bs : List ℕ) where
           let few : line ≤ 65536 = omega arith in
           subst (Follows line bs) (next-line line bs h few) (line-follows few (readLine bs) (line-sound bs))
 
-  pub follows-breath : (entry : Entry) → nextOf line bs ≡ Next.Breath entry → (line ≤ 65536) × Whole bs entry
+  pub follows-breath : (entry : Entry) → nextOf line bs ≡ done (aBreath entry) → (line ≤ 65536) × Whole bs entry
   follows-breath entry e = subst (Follows line bs) e next-follows
 
-  pub follows-stop : (s : Stop) → nextOf line bs ≡ Next.Stopped s → StopAt line s
-  follows-stop s e = subst (Follows line bs) e next-follows
+  pub follows-stop : {number place : ℕ} → nextOf line bs ≡ stop number place → StopAt line number place
+  follows-stop e = subst (Follows line bs) e next-follows
 
 -- ---- the bytes that follow
 
@@ -155,8 +150,8 @@ next-ready line bs more h =
     next-is line (bs ++ more) both ∙ rw (same) refl ∙ sym (next-is line bs some)
 
 -- nor does what stands behind a breath's line
-pub next-taken : (line : ℕ) (bs : List ℕ) (entry : Entry) → nextOf line bs ≡ Next.Breath entry → (m : ℕ) → entry .used ≤ m
-    → nextOf line (take m bs) ≡ Next.Breath entry
+pub next-taken : (line : ℕ) (bs : List ℕ) (entry : Entry) → nextOf line bs ≡ done (aBreath entry) → (m : ℕ) → entry .used ≤ m
+    → nextOf line (take m bs) ≡ done (aBreath entry)
 next-taken line bs entry e m h =
     let w : Whole bs entry = follows-breath line bs entry e .1 in
     let k : ℕ = lengthBefore 10 bs in
@@ -167,77 +162,69 @@ next-taken line bs entry e m h =
 -- ---- one step
 
 module _ (steps line : ℕ) (bs : List ℕ) where
-  breaths-step : (x : Next) → nextOf line bs ≡ x
-      → breathsFrom (suc steps) line bs
-      ≡ elim x [ Next.Breath entry ↦ entry .breath ∷ breathsFrom steps (suc line) (drop (entry .used) bs) | Next.End ↦ [] | Next.Stopped s ↦ [] ]
+  abbrev breathed : Outcome Coming → List Breath
+  breathed (done (aBreath entry)) = entry .breath ∷ breathsFrom steps (suc line) (drop (entry .used) bs)
+  breathed (done theEnd) = []
+  breathed (stop number place) = []
+
+  breaths-step : (x : Outcome Coming) → nextOf line bs ≡ x → breathsFrom (suc steps) line bs ≡ breathed x
   unfolding breathsFrom
-  breaths-step x e =
-      ap
-      (λ (y : Next). elim y as (λ z. List Breath) [
-        | Next.Breath entry ↦ entry .breath ∷ breathsFrom steps (suc line) (drop (entry .used) bs)
-        | Next.End ↦ []
-        | Next.Stopped s ↦ []
-      ])
-      e
+  breaths-step x e = ap breathed e
 
-  pub breaths-more : (entry : Entry) → nextOf line bs ≡ Next.Breath entry
+  pub breaths-more : (entry : Entry) → nextOf line bs ≡ done (aBreath entry)
       → breathsFrom (suc steps) line bs ≡ entry .breath ∷ breathsFrom steps (suc line) (drop (entry .used) bs)
-  breaths-more entry e = breaths-step (Next.Breath entry) e
+  breaths-more entry e = breaths-step (done (aBreath entry)) e
 
-  pub breaths-end : nextOf line bs ≡ Next.End → breathsFrom (suc steps) line bs ≡ []
-  breaths-end e = breaths-step Next.End e
+  pub breaths-end : nextOf line bs ≡ done theEnd → breathsFrom (suc steps) line bs ≡ []
+  breaths-end e = breaths-step (done theEnd) e
 
-  pub breaths-stop : (s : Stop) → nextOf line bs ≡ Next.Stopped s → breathsFrom (suc steps) line bs ≡ []
-  breaths-stop s e = breaths-step (Next.Stopped s) e
+  pub breaths-stop : {number place : ℕ} → nextOf line bs ≡ stop number place → breathsFrom (suc steps) line bs ≡ []
+  breaths-stop {number} {place} e = breaths-step (stop number place) e
 
-  check-step : (x : Next) → nextOf line bs ≡ x
-      → checkFrom (suc steps) line bs
-      ≡ elim x [ Next.Breath entry ↦ checkFrom steps (suc line) (drop (entry .used) bs) | Next.End ↦ done tt | Next.Stopped s ↦ stop (s .number) (s .place) ]
+  abbrev checked : Coming → Outcome (Unit {0})
+  checked (aBreath entry) = checkFrom steps (suc line) (drop (entry .used) bs)
+  checked theEnd = done tt
+
+  check-step : (x : Outcome Coming) → nextOf line bs ≡ x → checkFrom (suc steps) line bs ≡ (x then checked)
   unfolding checkFrom
-  check-step x e =
-      ap
-      (λ (y : Next). elim y as (λ z. Outcome (Unit {0})) [
-        | Next.Breath entry ↦ checkFrom steps (suc line) (drop (entry .used) bs)
-        | Next.End ↦ done tt
-        | Next.Stopped s ↦ stop (s .number) (s .place)
-      ])
-      e
+  check-step x e = ap (λ (y : Outcome Coming). y then checked) e
 
-  pub check-more : (entry : Entry) → nextOf line bs ≡ Next.Breath entry → checkFrom (suc steps) line bs ≡ checkFrom steps (suc line) (drop (entry .used) bs)
-  check-more entry e = check-step (Next.Breath entry) e
+  pub check-more : (entry : Entry) → nextOf line bs ≡ done (aBreath entry)
+      → checkFrom (suc steps) line bs ≡ checkFrom steps (suc line) (drop (entry .used) bs)
+  check-more entry e = check-step (done (aBreath entry)) e
 
-  pub check-end : nextOf line bs ≡ Next.End → checkFrom (suc steps) line bs ≡ done tt
-  check-end e = check-step Next.End e
+  pub check-end : nextOf line bs ≡ done theEnd → checkFrom (suc steps) line bs ≡ done tt
+  check-end e = check-step (done theEnd) e
 
-  pub check-stop : (s : Stop) → nextOf line bs ≡ Next.Stopped s → checkFrom (suc steps) line bs ≡ stop (s .number) (s .place)
-  check-stop s e = check-step (Next.Stopped s) e
+  pub check-stop : {number place : ℕ} → nextOf line bs ≡ stop number place → checkFrom (suc steps) line bs ≡ stop number place
+  check-stop {number} {place} e = check-step (stop number place) e
 
 -- More steps than up to line 65,537 change nothing.
 pub breaths-steps : (steps more line : ℕ) (bs : List ℕ) → line + steps ≡ 65538 → line ≤ 65537 → breathsFrom (steps + more) line bs ≡ breathsFrom steps line bs
 breaths-steps zero more line bs e few = absurd (omega arith)
 breaths-steps (suc steps) more line bs e few = ap (λ (k : ℕ). breathsFrom k line bs) (suc-add steps more) ∙ go (nextOf line bs) refl (breaths-steps steps more (suc line))
   where
-    go : (x : Next) → nextOf line bs ≡ x → ((rest : List ℕ) → suc line + steps ≡ 65538 → suc line ≤ 65537 → breathsFrom (steps + more) (suc line) rest ≡ breathsFrom steps (suc line) rest)
+    go : (x : Outcome Coming) → nextOf line bs ≡ x → ((rest : List ℕ) → suc line + steps ≡ 65538 → suc line ≤ 65537 → breathsFrom (steps + more) (suc line) rest ≡ breathsFrom steps (suc line) rest)
         → breathsFrom (suc (steps + more)) line bs ≡ breathsFrom (suc steps) line bs
-    go (Next.Breath entry) n ih =
+    go (done (aBreath entry)) n ih =
         let w = follows-breath line bs entry n in
         breaths-more (steps + more) line bs entry n
         ∙ ap (λ (l : List Breath). entry .breath ∷ l) (ih (drop (entry .used) bs) (omega arith) (omega (arith, w .0)))
         ∙ sym (breaths-more steps line bs entry n)
-    go Next.End n ih = breaths-end (steps + more) line bs n ∙ sym (breaths-end steps line bs n)
-    go (Next.Stopped s) n ih = breaths-stop (steps + more) line bs s n ∙ sym (breaths-stop steps line bs s n)
+    go (done theEnd) n ih = breaths-end (steps + more) line bs n ∙ sym (breaths-end steps line bs n)
+    go (stop number place) n ih = breaths-stop (steps + more) line bs n ∙ sym (breaths-stop steps line bs n)
 
 pub check-steps : (steps more line : ℕ) (bs : List ℕ) → line + steps ≡ 65538 → line ≤ 65537 → checkFrom (steps + more) line bs ≡ checkFrom steps line bs
 check-steps zero more line bs e few = absurd (omega arith)
 check-steps (suc steps) more line bs e few = ap (λ (k : ℕ). checkFrom k line bs) (suc-add steps more) ∙ go (nextOf line bs) refl (check-steps steps more (suc line))
   where
-    go : (x : Next) → nextOf line bs ≡ x → ((rest : List ℕ) → suc line + steps ≡ 65538 → suc line ≤ 65537 → checkFrom (steps + more) (suc line) rest ≡ checkFrom steps (suc line) rest)
+    go : (x : Outcome Coming) → nextOf line bs ≡ x → ((rest : List ℕ) → suc line + steps ≡ 65538 → suc line ≤ 65537 → checkFrom (steps + more) (suc line) rest ≡ checkFrom steps (suc line) rest)
         → checkFrom (suc (steps + more)) line bs ≡ checkFrom (suc steps) line bs
-    go (Next.Breath entry) n ih =
+    go (done (aBreath entry)) n ih =
         let w = follows-breath line bs entry n in
         check-more (steps + more) line bs entry n ∙ ih (drop (entry .used) bs) (omega arith) (omega (arith, w .0)) ∙ sym (check-more steps line bs entry n)
-    go Next.End n ih = check-end (steps + more) line bs n ∙ sym (check-end steps line bs n)
-    go (Next.Stopped s) n ih = check-stop (steps + more) line bs s n ∙ sym (check-stop steps line bs s n)
+    go (done theEnd) n ih = check-end (steps + more) line bs n ∙ sym (check-end steps line bs n)
+    go (stop number place) n ih = check-stop (steps + more) line bs n ∙ sym (check-stop steps line bs n)
 
 -- of no bytes there are no breaths
 pub breaths-none : (steps line : ℕ) → breathsFrom steps line [] ≡ []
@@ -246,7 +233,7 @@ breaths-none zero line = refl
 breaths-none (suc steps) line = go (ℕ-discrete line 1)
   where
     go : Dec (line ≡ 1) → breathsFrom (suc steps) line [] ≡ []
-    go (yes h) = breaths-stop steps line [] _ (sym (next-none line [] refl) ∙ sym (stop-at-is line 12 ∙ closing-empty line h (stopAt line 12) refl))
+    go (yes h) = breaths-stop steps line [] (sym (next-none line [] refl) ∙ sym (closing-empty line h))
     go (no h) = breaths-end steps line [] (sym (next-none line [] refl) ∙ sym (closing-end line h))
 
 -- ---- the loop: what is read so far, and what the rest comes to
@@ -265,30 +252,30 @@ pub length-quick : (line : ℕ) → line ≤ 65536 → (bs : List ℕ) (used : �
 unfolding nextLength
 length-quick line few bs used s = ap nextLength (next-quick line few bs (record { breath = s .breath; used = used }) (s .read))
 
-module _ (x y : Next) (e : x ≡ y) where
+module _ (x : Next) (y : Outcome Coming) (e : nextOutcome x ≡ y) where
   pub length-breath : (entry : Entry) → x ≡ Next.Breath entry → Length.Line (entry .used) ≡ nextLength y
   unfolding nextLength
-  length-breath entry d = ap nextLength (sym d ∙ e)
+  length-breath entry d = ap nextLength (sym (ap nextOutcome d) ∙ e)
 
   pub length-end : x ≡ Next.End → Length.End ≡ nextLength y
   unfolding nextLength
-  length-end d = ap nextLength (sym d ∙ e)
+  length-end d = ap nextLength (sym (ap nextOutcome d) ∙ e)
 
   pub length-stop : (s : Stop) → x ≡ Next.Stopped s → Length.Stopped s ≡ nextLength y
   unfolding nextLength
-  length-stop s d = ap nextLength (sym d ∙ e)
+  length-stop s d = ap nextLength (sym (ap nextOutcome d) ∙ e)
 
 -- and what came next, from that
-abbrev Measures : Next → Length → Type 0
-Measures x (Length.Line used) = (entry : Entry) × (x ≡ Next.Breath entry) × (entry .used ≡ used)
-Measures x Length.End = x ≡ Next.End
-Measures x (Length.Stopped s) = x ≡ Next.Stopped s
+abbrev Measures : Outcome Coming → Length → Type 0
+Measures x (Length.Line used) = (entry : Entry) × (x ≡ done (aBreath entry)) × (entry .used ≡ used)
+Measures x Length.End = x ≡ done theEnd
+Measures x (Length.Stopped s) = x ≡ stop (s .number) (s .place)
 
-measures : (x : Next) → Measures x (nextLength x)
+measures : (x : Outcome Coming) → Measures x (nextLength x)
 unfolding nextLength
-measures (Next.Breath entry) = (entry, refl, refl)
-measures Next.End = refl
-measures (Next.Stopped s) = refl
+measures (done (aBreath entry)) = (entry, refl, refl)
+measures (done theEnd) = refl
+measures (stop number place) = refl
 
 module _ {bs : List ℕ} {line from : ℕ} (i : Reading bs line from) (x : Length) (xe : x ≡ nextLength (nextOf line (take (length bs - from) (drop from bs)))) where
   next-here : (known : Length) → x ≡ known → Measures (nextOf line (drop from bs)) known
@@ -305,7 +292,7 @@ module _ {bs : List ℕ} {line from : ℕ} (i : Reading bs line from) (x : Lengt
   reading-end d = sym (here ∙ check-end (65537 - line) line (drop from bs) (next-here Length.End d))
 
   pub reading-stopped : (s : Stop) → x ≡ Length.Stopped s → stop (s .number) (s .place) ≡ recordingCheck bs
-  reading-stopped s d = sym (here ∙ check-stop (65537 - line) line (drop from bs) s (next-here (Length.Stopped s) d))
+  reading-stopped s d = sym (here ∙ check-stop (65537 - line) line (drop from bs) (next-here (Length.Stopped s) d))
 
   module _ (used : ℕ) (d : x ≡ Length.Line used) where
     pub reading-used : (line ≤ 65536) × (1 ≤ used) × (from + used ≤ length bs)

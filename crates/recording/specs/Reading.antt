@@ -4,9 +4,10 @@ use mathlib.Core.List.{List, [], _∷_}
 use lib.Dec.{eqb, ltb}
 use lib.ListN.{drop}
 use Rattle.convergents.specs.Choice.{if_then_else_}
-use Rattle.slash.specs.Answers.{Outcome, stop, done}
+use Rattle.slash.specs.Answers.{Outcome, stop, done, _then_}
 use Rattle.breaths.specs.declared.breath.Breath.{Breath}
 use Rattle.recording.specs.Lines.{readLine}
+use Rattle.recording.specs.declared.line.Entry.{Entry}
 use Rattle.recording.specs.declared.line.Line.{Line}
 use Rattle.recording.specs.declared.line.Line.the-variants as Line
 use Rattle.recording.specs.declared.reading.Next.{Next}
@@ -14,23 +15,30 @@ use Rattle.recording.specs.declared.reading.Next.the-variants as Next
 
 -- ---- what comes next
 
--- A stop at a line.
-unfoldable pub stopAt : (line number : ℕ) → Next
-stopAt line number = Next.Stopped (record { number = number; place = line })
+-- What comes where nothing stops: a breath, with how many bytes its line uses; or the end.
+pub data Coming : Type 0 where
+  aBreath : Entry → Coming
+  theEnd : Coming
+
+-- The outcome that each answer stands for.
+abbrev pub nextOutcome : Next → Outcome Coming
+nextOutcome (Next.Breath entry) = done (aBreath entry)
+nextOutcome Next.End = done theEnd
+nextOutcome (Next.Stopped s) = stop (s .number) (s .place)
 
 -- Where no bytes are left, the recording ends. Stop 12: no line at all.
-unfoldable pub closing : (line : ℕ) → Next
-closing line = if eqb line 1 then stopAt line 12 else Next.End
+unfoldable pub closing : (line : ℕ) → Outcome Coming
+closing line = if eqb line 1 then stop 12 line else done theEnd
 
--- What a line comes to: a breath, or a stop.
-unfoldable pub fromLine : (line : ℕ) → Line → Next
-fromLine line (Line.Read entry) = Next.Breath entry
-fromLine line (Line.Refused number) = stopAt line number
+-- What a line comes to: a breath, or a stop at that line.
+unfoldable pub fromLine : (line : ℕ) → Line → Outcome Coming
+fromLine line (Line.Read entry) = done (aBreath entry)
+fromLine line (Line.Refused number) = stop number line
 
 -- What comes next, at a line, from the bytes not yet read. Stop 8: line 65,537 begins.
-unfoldable pub nextOf : (line : ℕ) → List ℕ → Next
+unfoldable pub nextOf : (line : ℕ) → List ℕ → Outcome Coming
 nextOf line [] = closing line
-nextOf line (b ∷ bs) = if ltb 65536 line then stopAt line 8 else fromLine line (readLine (b ∷ bs))
+nextOf line (b ∷ bs) = if ltb 65536 line then stop 8 line else fromLine line (readLine (b ∷ bs))
 
 -- ---- all that comes
 
@@ -39,20 +47,17 @@ unfoldable pub breathsFrom : (steps line : ℕ) → List ℕ → List Breath
 breathsFrom zero line bs = []
 breathsFrom (suc steps) line bs =
     elim (nextOf line bs) [
-      | Next.Breath entry ↦ entry .breath ∷ breathsFrom steps (suc line) (drop (entry .used) bs)
-      | Next.End ↦ []
-      | Next.Stopped s ↦ []
+      | done (aBreath entry) ↦ entry .breath ∷ breathsFrom steps (suc line) (drop (entry .used) bs)
+      | done theEnd ↦ []
+      | stop number place ↦ []
     ]
 
 -- The first bad line stops, with its number and line and nothing more.
 unfoldable pub checkFrom : (steps line : ℕ) → List ℕ → Outcome (Unit {0})
 checkFrom zero line bs = done tt
 checkFrom (suc steps) line bs =
-    elim (nextOf line bs) [
-      | Next.Breath entry ↦ checkFrom steps (suc line) (drop (entry .used) bs)
-      | Next.End ↦ done tt
-      | Next.Stopped s ↦ stop (s .number) (s .place)
-    ]
+    nextOf line bs then λ x.
+    elim x [ aBreath entry ↦ checkFrom steps (suc line) (drop (entry .used) bs) | theEnd ↦ done tt ]
 
 -- Line 65,537 ends every recording, so that the steps up to it are enough (proved: `breaths-steps`, `check-steps`).
 unfoldable pub breathsOn : (line : ℕ) → List ℕ → List Breath

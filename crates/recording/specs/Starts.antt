@@ -6,15 +6,15 @@ use mathlib.Core.List.{List, _∷_, _++_}
 use lib.Dec.{leb}
 use lib.ListN.{length, getD, take, drop}
 use Rattle.convergents.specs.Choice.{if_then_else_}
+use Rattle.slash.specs.Answers.{Outcome, stop, done}
 use Rattle.breaths.specs.declared.breath.Breath.{Breath}
 use Rattle.text.specs.Parts.{isDigit}
 use Rattle.recording.specs.Lines.{digitsFrom, readMark, readLine}
+use Rattle.recording.specs.Reading.{Coming, aBreath, theEnd}
 use Rattle.recording.specs.declared.line.Mark.the-variants.{Tick, Wrong}
 use Rattle.recording.specs.declared.line.Line.the-variants.{Read}
 use Rattle.recording.specs.declared.line.Pass.{Pass}
 use Rattle.recording.specs.declared.line.Pass.the-variants as Pass
-use Rattle.recording.specs.declared.reading.Next.{Next}
-use Rattle.recording.specs.declared.reading.Next.the-variants as Next
 use Rattle.recording.specs.declared.reading.Length.{Length}
 use Rattle.recording.specs.declared.reading.Length.the-variants as Length
 
@@ -69,7 +69,7 @@ abbrev pub Spanned : List ℕ → ℕ → Type 0
 Spanned bs used = (used ≡ 0 → ⊥) → Spans bs used
 
 -- How many bytes the next line takes, where it is a breath's.
-unfoldable pub nextLength : Next → Length
-nextLength (Next.Breath entry) = Length.Line (entry .used)
-nextLength Next.End = Length.End
-nextLength (Next.Stopped s) = Length.Stopped s
+unfoldable pub nextLength : Outcome Coming → Length
+nextLength (done (aBreath entry)) = Length.Line (entry .used)
+nextLength (done theEnd) = Length.End
+nextLength (stop number place) = Length.Stopped (record { number = number; place = place })

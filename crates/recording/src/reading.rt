@@ -1,7 +1,7 @@
 // A recording line by line: what comes next, and reading it through.
 ghost use mathlib.Core.Path.{_≡_};
-ghost use Rattle.slash.specs.Answers.{checkOutcome};
-ghost use Rattle.recording.specs.Reading.{stopAt, closing, nextOf, recordingCheck};
+ghost use Rattle.slash.specs.Answers.{stop, toldOutcome};
+ghost use Rattle.recording.specs.Reading.{nextOutcome, closing, nextOf, recordingCheck};
 ghost use Rattle.recording.specs.Starts.{nextLength};
 use crate::line::Entry;
 use crate::line::Line;
@@ -10,8 +10,8 @@ use crate::line::read_any;
 use crate::line::read_breath;
 use crate::measure::breath_length;
 use crate::stop;
-use slash::Checked;
 use slash::Stop;
+use slash::Told;
 
 // The most lines of a recording.
 const MOST_LINES: u32 = 65536;
@@ -32,7 +32,7 @@ pub(crate) enum Length {
 
 // A stop at a line.
 fn stop_at(line: u32, number: u32) -> Next
-    ensures { λ r. ⌜ r ≡ stopAt line number ⌝ }
+    ensures { λ r. ⌜ nextOutcome r ≡ stop number line ⌝ }
 {
     Next::Stopped(Stop {
         number: number as u64,
@@ -42,7 +42,7 @@ fn stop_at(line: u32, number: u32) -> Next
 
 // Where no bytes are left.
 fn closing(line: u32) -> Next
-    ensures { λ r. ⌜ r ≡ closing line ⌝ }
+    ensures { λ r. ⌜ nextOutcome r ≡ closing line ⌝ }
 {
     if line == 1 {
         stop_at(line, stop::EMPTY)
@@ -53,7 +53,7 @@ fn closing(line: u32) -> Next
 
 // What comes next, whatever it is.
 fn any_line(line: u32, bytes: &[u8]) -> Next
-    ensures { λ r. ⌜ r ≡ nextOf line (now (bytes .entry)) ⌝ }
+    ensures { λ r. ⌜ nextOutcome r ≡ nextOf line (now (bytes .entry)) ⌝ }
 {
     if bytes.len() == 0 {
         return closing(line);
@@ -70,7 +70,7 @@ fn any_line(line: u32, bytes: &[u8]) -> Next
 // What comes next, at a line, from the bytes not yet read. Where one pass finds no breath, the long
 // way tells why.
 pub fn next_line(line: u32, bytes: &[u8]) -> Next
-    ensures { λ r. ⌜ r ≡ nextOf line (now (bytes .entry)) ⌝ }
+    ensures { λ r. ⌜ nextOutcome r ≡ nextOf line (now (bytes .entry)) ⌝ }
 {
     if line <= MOST_LINES {
         if let Pass::Breath(entry) = read_breath(bytes) {
@@ -98,8 +98,8 @@ fn next_length(line: u32, bytes: &[u8]) -> Length
 }
 
 // Reads a recording through: the first bad line stops it.
-pub fn check(recording: &[u8]) -> Checked
-    ensures { λ r. ⌜ checkOutcome r ≡ recordingCheck (now (recording .entry)) ⌝ }
+pub fn check(recording: &[u8]) -> Told
+    ensures { λ r. ⌜ toldOutcome r ≡ recordingCheck (now (recording .entry)) ⌝ }
 {
     let mut line = 1;
     let mut from = 0;
@@ -110,10 +110,10 @@ pub fn check(recording: &[u8]) -> Checked
                 from += used;
             }
             Length::End => {
-                return Checked::Good;
+                return Told::Done;
             }
             Length::Stopped(stop) => {
-                return Checked::Stopped(stop);
+                return Told::Stopped(stop);
             }
         }
     }

@@ -6,10 +6,12 @@ use native.Mathlib.Omega.{arith}
 use lib.Dec.{eqb}
 use borrow.Author.Tests.{ne-eqb}
 use Rattle.convergents.specs.Choice.{if_then_else_}
-use Rattle.slash.specs.Answers.{Outcome, stop, done, _then_, orZero, WhenDone, checkOutcome}
+use Rattle.slash.specs.Answers.{Outcome, stop, done, _then_, orZero, WhenDone, toldOutcome, writtenOutcome}
 use Rattle.slash.specs.declared.answer.Stop.{Stop}
-use Rattle.slash.specs.declared.reading.Checked.{Checked}
-use Rattle.slash.specs.declared.reading.Checked.the-variants as Checked
+use Rattle.slash.specs.declared.answer.Told.{Told}
+use Rattle.slash.specs.declared.answer.Told.the-variants as Told
+use Rattle.slash.specs.declared.answer.Written.{Written}
+use Rattle.slash.specs.declared.answer.Written.the-variants as Written
 
 -- a stop made by `Stop::plain`
 pub plain-stop : {A : Type 0} (s : Stop) (n : ℕ) {o : Outcome A} → s ≡ record { number = n; place = 0 } → stop n 0 ≡ o → stop (s .number) (s .place) ≡ o
@@ -29,25 +31,40 @@ module _ {A B : Type 0} {o : Outcome A} (next : A → Outcome B) where
   pub then-done : {x : A} {r : Outcome B} → done x ≡ o → r ≡ next x → r ≡ (o then next)
   then-done {x} {r} e h = h ∙ ap (λ (q : Outcome A). q then next) e
 
--- what a check answered, by its case
-module _ {a : Checked} {o : Outcome (Unit {0})} (h : checkOutcome a ≡ o) where
-  pub told-stop : {s : Stop} → a ≡ Checked.Stopped s → stop (s .number) (s .place) ≡ o
-  told-stop e = sym (ap checkOutcome e) ∙ h
+-- and back, where the next step is always done
+module _ {A : Type 0} (x : A) where
+  pub then-stopped : {n p : ℕ} (o : Outcome (Unit {0})) → stop n p ≡ (o then λ _. done x) → stop n p ≡ o
+  then-stopped (stop n p) e = cc
+  then-stopped (done u) e = absurd (no-stop e)
 
-  pub told-good : a ≡ Checked.Good → done tt ≡ o
-  told-good e = sym (ap checkOutcome e) ∙ h
+  pub then-made : {y : A} (o : Outcome (Unit {0})) → done y ≡ (o then λ _. done x) → o ≡ done tt
+  then-made (stop n p) e = absurd (no-stop (sym e))
+  then-made (done u) e = refl
 
--- the word of an outcome, and what holds of it where there is one
-module _ (P : ℕ → Type 0) where
-  pub stopped-word : {n p : ℕ} (o : Outcome ℕ) → stop n p ≡ o → (0 ≡ orZero o) × WhenDone o (λ _. P 0)
-  unfolding orZero
-  stopped-word (stop n p) e = (refl, tt)
-  stopped-word (done v) e = absurd (no-stop e)
+-- what a call answered that makes nothing, by its case
+module _ {a : Told} {o : Outcome (Unit {0})} (h : toldOutcome a ≡ o) where
+  pub told-stop : {s : Stop} → a ≡ Told.Stopped s → stop (s .number) (s .place) ≡ o
+  told-stop e = sym (ap toldOutcome e) ∙ h
 
-  pub done-word : {v : ℕ} (o : Outcome ℕ) → done v ≡ o → P v → (v ≡ orZero o) × WhenDone o (λ _. P v)
-  unfolding orZero
-  done-word (stop n p) e h = absurd (no-stop (sym e))
-  done-word (done v) e h = (done-inj e, h)
+  pub told-done : a ≡ Told.Done → done tt ≡ o
+  told-done e = sym (ap toldOutcome e) ∙ h
+
+-- what a call answered that makes a word
+module _ {a : Written} {o : Outcome ℕ} (h : writtenOutcome a ≡ o) where
+  pub written-stop : {s : Stop} → a ≡ Written.Stopped s → stop (s .number) (s .place) ≡ o
+  written-stop e = sym (ap writtenOutcome e) ∙ h
+
+  pub written-done : {w : ℕ} → a ≡ Written.Done w → done w ≡ o
+  written-done e = sym (ap writtenOutcome e) ∙ h
+
+-- the word of an outcome, or 0
+pub zero-stop : {n p : ℕ} {o : Outcome ℕ} → stop n p ≡ o → 0 ≡ orZero o
+unfolding orZero
+zero-stop e = ap orZero e
+
+pub zero-done : {v : ℕ} {o : Outcome ℕ} → done v ≡ o → v ≡ orZero o
+unfolding orZero
+zero-done e = ap orZero e
 
 -- a call o that is a check first, and then makes v
 module _ (c : Outcome (Unit {0})) (v : ℕ) {o : Outcome ℕ} (e : (c then λ _. done v) ≡ o) where

@@ -25,11 +25,11 @@ use Rattle.slash.specs.declared.number.Value.{Value}
 use Rattle.slash.specs.declared.number.Value.the-variants.{Fraction, Zero, Infinity, NotANumber}
 use Rattle.slash.specs.declared.number.Number.{Number}
 use Rattle.slash.proofs.AnswerLaws.{done-inj, no-stop, some-not}
-use Rattle.slash.proofs.FormatLaws.{format-limit, largest-most, largest-some, largest-below}
+use Rattle.slash.proofs.FormatLaws.{format-refused, format-limit, largest-most, largest-some, largest-below}
 use Rattle.slash.proofs.RoundingLaws.{held-miss, held-exact}
 use Rattle.slash.proofs.RoundTrip.{Proper, zero-proper, infinity-proper, value-infinity, value-zero, value-fraction, Says, says-read, pair-says, nan-says}
 use Rattle.slash.proofs.WordLaws.{checked-known, checked-read, read-checked}
-use Rattle.slash.proofs.WriteLaws.{lowest-proper, over-some, write-unknown, write-over-zero, write-done}
+use Rattle.slash.proofs.WriteLaws.{lowest-proper, over-some, write-refused, write-over-zero, write-done}
 use Rattle.slash.proofs.Recompose.{Fractional, fractional}
 
 module _ (f : Format) (h : known f ≡ true) where
@@ -290,7 +290,7 @@ written-canonical f x w e = go (known f) refl (isOverZero (x .value)) refl
     go : (b : Bool) → known f ≡ b → (c : Bool) → isOverZero (x .value) ≡ c → CanonicalWord f w
     go true h false z = subst (λ (v : ℕ). CanonicalWord f v) (done-inj (write-done f x h z ∙ e)) (word-canonical f h (x .approximate) (x .value) z)
     go true h true z = absurd (no-stop (write-over-zero f x h z ∙ e))
-    go false h c z = absurd (no-stop (write-unknown f x h ∙ e))
+    go false h c z = absurd (no-stop (write-refused f x (format-refused f h) ∙ e))
 
 -- what is read is of a known format
 pub read-known : (f : Format) (w : ℕ) (x : Number) → readWord f w ≡ done x → known f ≡ true

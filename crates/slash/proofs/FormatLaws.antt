@@ -11,31 +11,55 @@ use borrow.Author.Tests.{leb-true, eqb-true, le-leb, eq-eqb, ne-eqb}
 use Rattle.convergents.specs.Pairs.{pair}
 use Rattle.convergents.specs.Rounding.{Limit, held}
 use Rattle.convergents.proofs.Optimal.{held-is}
-use Rattle.slash.specs.Answers.{stop, done}
+use Rattle.slash.specs.Answers.{stop, done, toldOutcome}
 use Rattle.slash.specs.Bits.{bitCount}
-use Rattle.slash.specs.Formats.{isFixed, isFloating, kFits, known, ofKnown, makeFormat, slashBits, widthOf, holds, largestPart}
+use Rattle.slash.specs.Formats.{isFixed, isFloating, kFits, known, checkFormat, ofKnown, formatOf, makeFormat, slashBits, widthOf, holds, largestPart}
+use Rattle.slash.specs.declared.answer.Told.{Told}
+use Rattle.slash.specs.declared.answer.Told.the-variants as Told
 use Rattle.slash.specs.declared.format.Format.{Format}
-use Rattle.slash.proofs.AnswerLaws.{and-parts}
+use Rattle.slash.proofs.AnswerLaws.{no-stop, then-stop, told-done, and-parts}
 use Rattle.slash.proofs.BitLaws.{or-most, least-power, least-count, bit-count-lt, bit-count-le, bit-count-pos, bit-count-mono}
 
--- ---- answers
+-- ---- the check of a format
 
+module _ (f : Format) where
+  pub format-good : known f ≡ true → checkFormat f ≡ done tt
+  unfolding checkFormat
+  format-good h = rw h refl
+
+  pub format-refused : known f ≡ false → stop 1 0 ≡ checkFormat f
+  unfolding checkFormat
+  format-refused h = rw h refl
+
+  -- what it leaves is known
+  pub good-known : done tt ≡ checkFormat f → known f ≡ true
+  good-known e = go (known f) refl
+    where
+      go : (b : Bool) → known f ≡ b → known f ≡ true
+      go true h = h
+      go false h = absurd (no-stop (format-refused h ∙ sym e))
+
+  pub told-known : {a : Told} → toldOutcome a ≡ checkFormat f → a ≡ Told.Done → known f ≡ true
+  told-known h e = good-known (told-done h e)
+
+-- and what it stops is stopped so
 module _ {A : Type 0} (f : Format) (x : A) where
   pub of-known : known f ≡ true → done x ≡ ofKnown f x
   unfolding ofKnown
-  of-known h = rw h refl
+  of-known h = rw (format-good f h) refl
 
-  pub of-unknown : known f ≡ false → stop 1 0 ≡ ofKnown f x
+  pub of-refused : {n p : ℕ} → stop n p ≡ checkFormat f → stop n p ≡ ofKnown f x
   unfolding ofKnown
-  of-unknown h = rw h refl
+  of-refused e = then-stop (λ _. done x) e
 
-pub make-known : (kind k : ℕ) → known (record { kind = kind; k = k }) ≡ true → done (record { kind = kind; k = k }) ≡ makeFormat kind k
-unfolding makeFormat
-make-known kind k h = of-known _ _ h
+module _ (kind k : ℕ) where
+  pub make-known : known (formatOf kind k) ≡ true → done (formatOf kind k) ≡ makeFormat kind k
+  unfolding makeFormat
+  make-known h = of-known _ _ h
 
-pub make-unknown : (kind k : ℕ) → known (record { kind = kind; k = k }) ≡ false → stop 1 0 ≡ makeFormat kind k
-unfolding makeFormat
-make-unknown kind k h = of-unknown _ _ h
+  pub make-refused : {n p : ℕ} → stop n p ≡ checkFormat (formatOf kind k) → stop n p ≡ makeFormat kind k
+  unfolding makeFormat
+  make-refused e = of-refused _ _ e
 
 -- ---- what a known format says of its k
 

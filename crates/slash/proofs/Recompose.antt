@@ -121,12 +121,34 @@ module _ (k e f : ℕ) (l : e ≤ k - 2) (hk : 2 ≤ k) (hf : f < 2 ^ (k - 1)) w
 
 -- ---- either
 
-module _ (f : Format) (w : ℕ) (h : known f ≡ true) (c : checkWord f w ≡ done tt) (p : Parts) where
+-- A word that is checked is made of its fields.
+module _ (f : Format) (w : ℕ) (h : known f ≡ true) (c : checkWord f w ≡ done tt) where
   -- it is below its width
   clear-below : w < 2 ^ widthOf f
   unfolding isAbove
   clear-below = leb-false _ _ (checked-below f w c)
 
+  pub fixed-whole : f .kind ≡ 1 → fixedWord (f .k) (bitOf (bit (2 * f .k + 1) w)) (bits (f .k + 1) (f .k) w) (bitOf (bit (f .k) w)) (bits 0 (f .k) w) ≡ w
+  unfolding fixedWord
+  fixed-whole e =
+      let k : ℕ = f .k in
+      let g : 2 * k + 1 ≡ k + 1 + k = omega arith in
+      let l : w < 2 ^ (k + 1 + k + 1) = subst (λ (j : ℕ). w < 2 ^ j) (sym (width-fixed f e) ∙ omega arith) clear-below in
+      rw (bit-of (2 * k + 1) w, bit-of k w, g) (recompose k 1 k w l)
+
+  pub floating-whole : (f .kind ≡ 1 → ⊥)
+      → floatingWord (f .k) (bitOf (bit (f .k + slashBits (f .k)) w)) (bitOf (bit (f .k + slashBits (f .k) - 1) w)) (slashPosition (f .k) w) (bits 0 (f .k - 1) w) ≡ w
+  unfolding floatingWord slashPosition
+  floating-whole e =
+      let k : ℕ = f .k in
+      let L : ℕ = slashBits k in
+      let hk = known-k f h .0 in
+      let a : k + L ≡ k - 1 + L + 1 = omega arith in
+      let b : k + L - 1 ≡ k - 1 + L = omega arith in
+      let l : w < 2 ^ (k - 1 + L + 1 + 1) = subst (λ (j : ℕ). w < 2 ^ j) (sym (width-floating f e _ refl) ∙ omega arith) clear-below in
+      rw (bit-of (k + L) w, bit-of (k + L - 1) w, b, a) (recompose 1 L (k - 1) w l)
+
+module _ (f : Format) (w : ℕ) (h : known f ≡ true) (c : checkWord f w ≡ done tt) (p : Parts) where
   -- What a word says as a fraction is held, and its parts make that word.
   pub record Fractional : Type 0 where
     pub parts : HeldParts f p
@@ -134,12 +156,7 @@ module _ (f : Format) (w : ℕ) (h : known f ≡ true) (c : checkWord f w ≡ do
 
   module _ (e : f .kind ≡ 1) where
     fixed-again : pairWord f (bit (2 * f .k + 1) w) (bit (f .k) w) (pair (bits (f .k + 1) (f .k) w) (bits 0 (f .k) w)) ≡ w
-    unfolding fixedWord
-    fixed-again =
-        let k : ℕ = f .k in
-        let g : 2 * k + 1 ≡ k + 1 + k = omega arith in
-        let l : w < 2 ^ (k + 1 + k + 1) = subst (λ (j : ℕ). w < 2 ^ j) (sym (width-fixed f e) ∙ omega arith) clear-below in
-        sym (word-fixed f _ _ _ _ e) ∙ rw (bit-of (2 * k + 1) w, bit-of k w, g) (recompose k 1 k w l)
+    fixed-again = sym (word-fixed f _ _ _ _ e) ∙ fixed-whole f w h c e
 
     fixed-fractional : numberOf f w .value ≡ Fraction p → Fractional
     unfolding fixedNumber
@@ -173,17 +190,6 @@ module _ (f : Format) (w : ℕ) (h : known f ≡ true) (c : checkWord f w ≡ do
     abbrev F : ℕ
     F = bits 0 (f .k - 1) w
 
-    -- the word from its own fields
-    floating-whole : floatingWord (f .k) (bitOf S) (bitOf (bit (f .k + L - 1) w)) E F ≡ w
-    unfolding floatingWord slashPosition
-    floating-whole =
-        let k : ℕ = f .k in
-        let hk = known-k f h .0 in
-        let a : k + L ≡ k - 1 + L + 1 = omega arith in
-        let b : k + L - 1 ≡ k - 1 + L = omega arith in
-        let l : w < 2 ^ (k - 1 + L + 1 + 1) = subst (λ (j : ℕ). w < 2 ^ j) (sym (width-floating f e _ refl) ∙ omega arith) clear-below in
-        rw (bit-of (k + L) w, bit-of (k + L - 1) w, b, a) (recompose 1 L (k - 1) w l)
-
     floating-fractional : numberOf f w .value ≡ Fraction p → Fractional
     unfolding floatingNumber floatingPair
     floating-fractional v =
@@ -201,12 +207,12 @@ module _ (f : Format) (w : ℕ) (h : known f ≡ true) (c : checkWord f w ≡ do
         let z : d ≡ 0 → ⊥ = λ q. omega (arith, pow-pos E) in
         let dc = denominator-count k E F l hk hf in
         let i : bitCount n + bitCount d ≤ k = omega (arith, numerator-count k E F l hk hf) in
-        let c : bitCount d - 1 ≡ E = omega arith in
+        let d-count : bitCount d - 1 ≡ E = omega arith in
         let g : n * 2 ^ E + (d - 2 ^ E) ≡ F = omega (arith, div-add-mod' F (2 ^ E)) in
         rw (← same)
         (record {
           parts = record { some-numerator = some; some-denominator = omega (arith, pow-pos E); holds-it = holds-sum f n d e i };
-          again = rw (← a) (sym (word-floating f S A n d e) ∙ rw (ne-eqb _ _ z, c, g) floating-whole);
+          again = rw (← a) (sym (word-floating f S A n d e) ∙ rw (ne-eqb _ _ z, d-count, g) (floating-whole f w h c e));
         })
 
   pub fractional : numberOf f w .value ≡ Fraction p → Fractional

@@ -11,11 +11,12 @@ use Rattle.convergents.proofs.Optimal.{held-is}
 use Rattle.convergents.proofs.Theorem.{round-exact}
 use Rattle.convergents.proofs.Loop.{Rounds, differs-not}
 use Rattle.slash.specs.Answers.{stop, done}
-use Rattle.slash.specs.Formats.{known, holds}
+use Rattle.slash.specs.Formats.{known, checkFormat, holds}
 use Rattle.slash.specs.Rounding.{rounded, roundRatio}
 use Rattle.slash.specs.declared.format.Format.{Format}
 use Rattle.slash.specs.declared.rounding.Rounded.{Rounded}
-use Rattle.slash.proofs.FormatLaws.{format-limit}
+use Rattle.slash.proofs.AnswerLaws.{then-stop}
+use Rattle.slash.proofs.FormatLaws.{format-good, format-limit}
 
 module _ (f : Format) (N D p q : ℕ) (a : Bool) (w : Rounds (holds f) N D (pair p q) a) where
   parts : (x : Pair) → pair p q ≡ x → a ≡ differs N D x
@@ -37,14 +38,14 @@ module _ (f : Format) (h : known f ≡ true) (n d : ℕ) (l : 1 ≤ d) (e : hold
 
 -- the answers of `round`
 module _ (f : Format) (N D : ℕ) where
-  pub ratio-unknown : known f ≡ false → stop 1 0 ≡ roundRatio f N D
+  pub ratio-refused : {n p : ℕ} → stop n p ≡ checkFormat f → stop n p ≡ roundRatio f N D
   unfolding roundRatio
-  ratio-unknown h = rw h refl
+  ratio-refused e = then-stop _ e
 
   pub ratio-zero : known f ≡ true → D ≡ 0 → stop 6 0 ≡ roundRatio f N D
   unfolding roundRatio
-  ratio-zero h e = rw (h, eq-eqb _ _ e) refl
+  ratio-zero h e = rw (format-good f h, eq-eqb _ _ e) refl
 
   pub ratio-done : known f ≡ true → (D ≡ 0 → ⊥) → (x : Rounded) → x ≡ rounded f N D → done x ≡ roundRatio f N D
   unfolding roundRatio
-  ratio-done h n x e = rw (h, ne-eqb _ _ n, e) refl
+  ratio-done h n x e = rw (format-good f h, ne-eqb _ _ n, e) refl

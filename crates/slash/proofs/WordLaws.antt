@@ -4,24 +4,26 @@ use mathlib.Core.Bool.{Bool, true, false, _&&_}
 use Prim.Native.Nat.{ℕ, _+_, _-_, _*_, _/_, _%_, _^_, _≤_, _<_}
 use native.Mathlib.Omega.{arith}
 use native.Mathlib.Nat.{le-div-iff-mul-le, div-lt-iff-lt-mul, div-add-mod', mod-eq-of-lt}
-use lib.Dec.{leb}
+use lib.Dec.{leb, eqb}
 use lib.Arith.{digits-lt}
-use lib.Pow.{pow-pos, pow-mono, pow-add}
+use lib.Pow.{pow-pos, pow-mono, pow-add, shr-shr}
 use borrow.Author.Tests.{le-leb, lt-leb, leb-true, leb-false, eq-eqb, ne-eqb}
 use Rattle.slash.specs.Answers.{Outcome, stop, done, _then_, checkOutcome}
 use Rattle.slash.specs.Bits.{bitCount, bits, bit, fields}
-use Rattle.slash.specs.Formats.{kFits, known, slashBits, widthOf}
-use Rattle.slash.specs.Words.{fixedValue, fixedNumber, slashPosition, slashUndefined, floatingFraction, floatingSpecial, floatingNumber, numberOf, isAbove, checkWord, readWord, numberIn, fixedWord, floatingWord, floatingPair}
+use Rattle.slash.specs.Formats.{kFits, known, checkFormat, slashBits, widthOf}
+use Rattle.slash.specs.Words.{fixedValue, fixedNumber, slashPosition, slashUndefined, floatingFraction, floatingSpecial, floatingNumber, numberOf, isAbove, checkWord, goodWord, checkedWord, readWord, fieldsOf, numberIn, fieldsIn, fixedFields, floatingFields, fixedWord, floatingWord, floatingPair}
 use Rattle.slash.specs.declared.answer.Stop.{Stop}
+use Rattle.slash.specs.declared.fields.Fields.the-variants.{Fixed, Floating}
 use Rattle.slash.specs.declared.format.Format.{Format}
 use Rattle.slash.specs.declared.number.Value.{Value}
 use Rattle.slash.specs.declared.number.Value.the-variants.{Fraction, Zero, Infinity, NotANumber}
 use Rattle.slash.specs.declared.number.Number.{Number}
 use Rattle.slash.specs.declared.reading.Checked.{Checked}
 use Rattle.slash.specs.declared.reading.Checked.the-variants as Checked
-use Rattle.slash.proofs.AnswerLaws.{no-stop, then-stop}
+use Rattle.slash.specs.declared.reading.GoodWord.{GoodWord}
+use Rattle.slash.proofs.AnswerLaws.{done-inj, no-stop, then-stop, then-stopped, then-made}
 use Rattle.slash.proofs.BitLaws.{pow-before, bit-count-lt, bit-count-pos, bit-count-top, bit-count-rest}
-use Rattle.slash.proofs.FormatLaws.{known-fits, slash-bits-enough}
+use Rattle.slash.proofs.FormatLaws.{format-good, good-known, known-fits, slash-bits-enough}
 
 -- ---- fixed words
 
@@ -46,16 +48,32 @@ module _ (s : Bool) (n d : ℕ) where
   unfolding fixedValue
   fixed-fraction h g = rw (ne-eqb _ _ h, ne-eqb _ _ g) refl
 
-pub fixed-number : (k w : ℕ) (s : Bool) (n d : ℕ) (v : Value) → s ≡ bit (2 * k + 1) w → n ≡ bits (k + 1) k w → d ≡ bits 0 k w
+-- the sign lies k bits above the numerator's lowest
+sign-bit : (k w : ℕ) → bit k (w / 2 ^ (k + 1)) ≡ bit (2 * k + 1) w
+unfolding bit bits
+sign-bit k w =
+    let e : k + 1 + k ≡ 2 * k + 1 = omega arith in
+    let h : w / 2 ^ (k + 1) / 2 ^ k ≡ w / 2 ^ (2 * k + 1) = shr-shr w (k + 1) k ∙ ap (λ (j : ℕ). w / 2 ^ j) e in
+    ap (λ (x : ℕ). eqb (x % 2 ^ 1) 1) h
+
+pub fixed-number : (k w : ℕ) (s : Bool) (n d : ℕ) (v : Value) → s ≡ bit k (w / 2 ^ (k + 1)) → n ≡ bits (k + 1) k w → d ≡ bits 0 k w
     → v ≡ fixedValue s n d → v ≡ fixedNumber k w .value
 unfolding fixedNumber
-fixed-number k w s n d v se ne de ve = rw (ve, se, ne, de) refl
+fixed-number k w s n d v se ne de ve = rw (ve, se, sign-bit k w, ne, de) refl
 
 pub fixed-word : (k s t n a b d r : ℕ) → t ≡ s → b ≡ a → r ≡ fields t n k b 1 d k → r ≡ fixedWord k s n a d
 unfolding fixedWord
 fixed-word k s t n a b d r te be e = e ∙ rw (te, be) refl
 
+pub fixed-fields : (k w : ℕ) {s a : Bool} {n d : ℕ} → s ≡ bit (2 * k + 1) w → n ≡ bits (k + 1) k w → a ≡ bit k w → d ≡ bits 0 k w
+    → record { negative = s; numerator = n; approximate = a; denominator = d } ≡ fixedFields k w
+fixed-fields k w se ne ae de = rw (se, ne, ae, de) refl
+
 -- ---- floating words
+
+pub floating-fields-are : (k w : ℕ) {l e f : ℕ} {s a : Bool} → l ≡ slashBits k → s ≡ bit (k + l) w → a ≡ bit (k + l - 1) w → e ≡ slashPosition k w
+    → f ≡ bits 0 (k - 1) w → record { negative = s; approximate = a; position = e; field = f } ≡ floatingFields k w
+floating-fields-are k w le se ae ee fe = rw (se, ae, ee, fe, le) refl
 
 pub slash-is : (k w l r : ℕ) → l ≡ slashBits k → r ≡ bits (k - 1) l w → r ≡ slashPosition k w
 unfolding slashPosition
@@ -199,27 +217,27 @@ above-case f w width b e h g = ap (λ (j : ℕ). isAbove j w) (sym e) ∙ sym h 
 
 module _ (f : Format) (w : ℕ) where
   -- the answers of `check`
-  pub check-unknown : known f ≡ false → stop 1 0 ≡ checkWord f w
+  pub check-refused : {n p : ℕ} → stop n p ≡ checkFormat f → stop n p ≡ checkWord f w
   unfolding checkWord
-  check-unknown h = rw h refl
+  check-refused e = then-stop _ e
 
   module _ (h : known f ≡ true) where
     pub check-above : isAbove (widthOf f) w ≡ true → stop 4 0 ≡ checkWord f w
     unfolding checkWord
-    check-above g = rw (h, g) refl
+    check-above g = rw (format-good f h, g) refl
 
     module _ (g : isAbove (widthOf f) w ≡ false) where
       pub check-fixed : f .kind ≡ 1 → done tt ≡ checkWord f w
       unfolding checkWord
-      check-fixed e = rw (h, g, eq-eqb _ _ e) refl
+      check-fixed e = rw (format-good f h, g, eq-eqb _ _ e) refl
 
       pub check-undefined : (f .kind ≡ 1 → ⊥) → slashUndefined (f .k) w ≡ true → stop 5 0 ≡ checkWord f w
       unfolding checkWord
-      check-undefined n u = rw (h, g, ne-eqb _ _ n, u) refl
+      check-undefined n u = rw (format-good f h, g, ne-eqb _ _ n, u) refl
 
       pub check-floating : (f .kind ≡ 1 → ⊥) → slashUndefined (f .k) w ≡ false → done tt ≡ checkWord f w
       unfolding checkWord
-      check-floating n u = rw (h, g, ne-eqb _ _ n, u) refl
+      check-floating n u = rw (format-good f h, g, ne-eqb _ _ n, u) refl
 
   pub number-fixed : f .kind ≡ 1 → fixedNumber (f .k) w ≡ numberOf f w
   unfolding numberOf
@@ -244,14 +262,27 @@ module _ (f : Format) (w : ℕ) where
   pub floating-fits : kFits f ≡ true → (f .kind ≡ 1 → ⊥) → floatingNumber (f .k) w ≡ numberIn f w
   floating-fits h n = number-floating n ∙ number-fit h
 
+  -- and `fields`
+  pub fields-unfit : kFits f ≡ false → Fixed (record { negative = false; numerator = 0; approximate = false; denominator = 0 }) ≡ fieldsIn f w
+  unfolding fieldsIn
+  fields-unfit h = rw h refl
+
+  pub fields-fixed : kFits f ≡ true → f .kind ≡ 1 → Fixed (fixedFields (f .k) w) ≡ fieldsIn f w
+  unfolding fieldsIn fieldsOf
+  fields-fixed h e = rw (h, eq-eqb _ _ e) refl
+
+  pub fields-floating : kFits f ≡ true → (f .kind ≡ 1 → ⊥) → Floating (floatingFields (f .k) w) ≡ fieldsIn f w
+  unfolding fieldsIn fieldsOf
+  fields-floating h n = rw (h, ne-eqb _ _ n) refl
+
   -- a word that is checked
   module _ (c : checkWord f w ≡ done tt) where
     pub checked-known : known f ≡ true
-    checked-known = go (known f) refl
+    checked-known = go (checkFormat f) refl
       where
-        go : (b : Bool) → known f ≡ b → known f ≡ true
-        go true h = h
-        go false h = absurd (no-stop (check-unknown h ∙ c))
+        go : (o : Outcome (Unit {0})) → checkFormat f ≡ o → known f ≡ true
+        go (done u) e = good-known f (sym e)
+        go (stop n p) e = absurd (no-stop (check-refused (sym e) ∙ c))
 
     -- it has no bit above its width
     pub checked-below : isAbove (widthOf f) w ≡ false
@@ -263,6 +294,10 @@ module _ (f : Format) (w : ℕ) where
 
     pub checked-number : numberIn f w ≡ numberOf f w
     checked-number = sym (number-fit (known-fits f checked-known))
+
+    pub checked-fields : fieldsIn f w ≡ fieldsOf f w
+    unfolding fieldsIn
+    checked-fields = rw (known-fits f checked-known) refl
 
     pub checked-read : readWord f w ≡ done (numberOf f w)
     unfolding readWord
@@ -282,13 +317,29 @@ module _ (f : Format) (w : ℕ) where
       go (done u) e = e
 
 -- what `check` answered, by its case: the word is read so
-module _ (f : Format) (w : ℕ) {r : Checked} (h : checkOutcome r ≡ checkWord f w) where
+module _ (f : Format) (w : ℕ) {r : Checked} (h : checkOutcome r ≡ checkedWord f w) where
+  pub check-stop : {s : Stop} → r ≡ Checked.Stopped s → stop (s .number) (s .place) ≡ checkWord f w
+  check-stop e = then-stopped (goodWord f w) (checkWord f w) (sym (ap checkOutcome e) ∙ h)
+
   pub check-stopped : {s : Stop} → r ≡ Checked.Stopped s → stop (s .number) (s .place) ≡ readWord f w
   unfolding readWord
-  check-stopped e = then-stop (λ _. done (numberOf f w)) (sym (ap checkOutcome e) ∙ h)
+  check-stopped e = then-stop (λ _. done (numberOf f w)) (check-stop e)
 
-  pub check-good : r ≡ Checked.Good → checkWord f w ≡ done tt
-  check-good e = sym h ∙ ap checkOutcome e
+  pub check-good : {g : GoodWord} → r ≡ Checked.Good g → checkWord f w ≡ done tt
+  check-good e = then-made (goodWord f w) (checkWord f w) (sym (ap checkOutcome e) ∙ h)
 
-  pub check-read : r ≡ Checked.Good → done (numberOf f w) ≡ readWord f w
+  -- and it is the word that was checked
+  pub check-same : {g : GoodWord} → r ≡ Checked.Good g → g ≡ goodWord f w
+  check-same e = done-inj (sym (ap checkOutcome e) ∙ h ∙ ap (λ (o : Outcome (Unit {0})). o then λ _. done (goodWord f w)) (check-good e))
+
+  pub check-number : {g : GoodWord} → r ≡ Checked.Good g → numberIn (g .format) (g .word) ≡ numberIn f w
+  check-number e = ap (λ (x : GoodWord). numberIn (x .format) (x .word)) (check-same e)
+
+  pub check-value : {g : GoodWord} → r ≡ Checked.Good g → {v : Value} → v ≡ numberIn (g .format) (g .word) .value → v ≡ numberIn f w .value
+  check-value e ve = ve ∙ ap (λ (x : Number). x .value) (check-number e)
+
+  pub check-mark : {g : GoodWord} → r ≡ Checked.Good g → {a : Bool} → a ≡ numberIn (g .format) (g .word) .approximate → a ≡ numberIn f w .approximate
+  check-mark e ae = ae ∙ ap (λ (x : Number). x .approximate) (check-number e)
+
+  pub check-read : {g : GoodWord} → r ≡ Checked.Good g → done (numberOf f w) ≡ readWord f w
   check-read e = sym (checked-read f w (check-good e))

@@ -12,7 +12,7 @@ use Rattle.convergents.specs.Best.{Best}
 use Rattle.convergents.proofs.Optimal.{zero-held}
 use Rattle.convergents.proofs.Theorem.{round-best, round-lowest, round-held}
 use Rattle.slash.specs.Answers.{stop, done}
-use Rattle.slash.specs.Formats.{known, holds}
+use Rattle.slash.specs.Formats.{known, checkFormat, holds}
 use Rattle.slash.specs.Rounding.{rounded}
 use Rattle.slash.specs.Steps.{partsWord}
 use Rattle.slash.specs.Words.{numberOf, pairWord, nanWord, wordFor, isOverZero, writeNumber, exactRatio, partsOf, pairOf, BestFor, BestWord}
@@ -22,7 +22,8 @@ use Rattle.slash.specs.declared.number.Value.{Value}
 use Rattle.slash.specs.declared.number.Value.the-variants.{Fraction, Zero, Infinity, NotANumber}
 use Rattle.slash.specs.declared.number.Number.{Number}
 use Rattle.slash.specs.declared.rounding.Rounded.{Rounded}
-use Rattle.slash.proofs.FormatLaws.{format-limit}
+use Rattle.slash.proofs.AnswerLaws.{then-stop}
+use Rattle.slash.proofs.FormatLaws.{format-good, format-limit}
 use Rattle.slash.proofs.RoundTrip.{Proper, zero-proper, pair-value, pair-says}
 
 -- what is in lowest terms stands for a value
@@ -121,17 +122,17 @@ over-some v p e h =
 -- ---- the answers of `write`
 
 module _ (f : Format) (x : Number) where
-  pub write-unknown : known f ≡ false → stop 1 0 ≡ writeNumber f x
+  pub write-refused : {n p : ℕ} → stop n p ≡ checkFormat f → stop n p ≡ writeNumber f x
   unfolding writeNumber
-  write-unknown h = rw h refl
+  write-refused e = then-stop _ e
 
   pub write-over-zero : known f ≡ true → isOverZero (x .value) ≡ true → stop 6 0 ≡ writeNumber f x
   unfolding writeNumber
-  write-over-zero h z = rw (h, z) refl
+  write-over-zero h z = rw (format-good f h, z) refl
 
   pub write-done : known f ≡ true → isOverZero (x .value) ≡ false → done (wordFor f (x .approximate) (x .value)) ≡ writeNumber f x
   unfolding writeNumber
-  write-done h z = rw (h, z) refl
+  write-done h z = rw (format-good f h, z) refl
 
   -- and its word, demand 3 with it
   pub write-word : known f ≡ true → isOverZero (x .value) ≡ false → (w : ℕ) → w ≡ wordFor f (x .approximate) (x .value)

@@ -3,7 +3,7 @@ use Prim.Native.Nat.{ℕ, _+_, _-_, _*_, _^_}
 use mathlib.Core.Bool.{Bool, _&&_, _||_}
 use lib.Dec.{leb, eqb}
 use Rattle.convergents.specs.Choice.{if_then_else_}
-use Rattle.slash.specs.Answers.{Outcome, stop, done}
+use Rattle.slash.specs.Answers.{Outcome, stop, done, _then_}
 use Rattle.slash.specs.Bits.{leastPower, bitCount}
 use Rattle.slash.specs.declared.format.Format.{Format}
 
@@ -21,9 +21,13 @@ kFits f = leb 2 (f .k) && leb (f .k) (if isFixed f then 31 else 32)
 unfoldable pub known : Format → Bool
 known f = (isFixed f || isFloating f) && kFits f
 
--- Stop 1 for an unknown kind or k, before anything else.
+-- The check of a format: stop 1 for an unknown kind or k.
+unfoldable pub checkFormat : Format → Outcome (Unit {0})
+checkFormat f = if known f then done tt else stop 1 0
+
+-- It comes before anything else.
 abbrev pub whenKnown : {A : Type 0} → Format → Outcome A → Outcome A
-whenKnown f next = if known f then next else stop 1 0
+whenKnown f next = checkFormat f then λ _. next
 
 unfoldable pub ofKnown : {A : Type 0} → Format → A → Outcome A
 ofKnown f x = whenKnown f (done x)

@@ -9,11 +9,16 @@ use Rattle.slash.specs.Answers.{Outcome, stop, done, _then_}
 use Rattle.slash.specs.Bits.{bitCount, bits, bit, bitOf, fields}
 use Rattle.slash.specs.Formats.{isFixed, kFits, whenKnown, slashBits, widthOf, holds}
 use Rattle.slash.specs.Rounding.{rounded}
+use Rattle.slash.specs.declared.fields.FixedFields.{FixedFields}
+use Rattle.slash.specs.declared.fields.FloatingFields.{FloatingFields}
+use Rattle.slash.specs.declared.fields.Fields.{Fields}
+use Rattle.slash.specs.declared.fields.Fields.the-variants.{Fixed, Floating}
 use Rattle.slash.specs.declared.format.Format.{Format}
 use Rattle.slash.specs.declared.number.Parts.{Parts}
 use Rattle.slash.specs.declared.number.Value.{Value}
 use Rattle.slash.specs.declared.number.Value.the-variants.{Fraction, Zero, Infinity, NotANumber}
 use Rattle.slash.specs.declared.number.Number.{Number}
+use Rattle.slash.specs.declared.reading.GoodWord.{GoodWord}
 use Rattle.slash.specs.declared.rounding.Rounded.{Rounded}
 
 -- ---- reading
@@ -27,9 +32,14 @@ fixedValue s n d =
     Fraction (record { negative = s; numerator = n; denominator = d })
 
 -- Sign s at bit 2k+1; numerator at bits 2k to k+1; mark at bit k; denominator at bits k-1 to 0.
+abbrev pub fixedFields : ℕ → ℕ → FixedFields
+fixedFields k w =
+    record { negative = bit (2 * k + 1) w; numerator = bits (k + 1) k w; approximate = bit k w; denominator = bits 0 k w }
+
 unfoldable pub fixedNumber : ℕ → ℕ → Number
 fixedNumber k w =
-    record { value = fixedValue (bit (2 * k + 1) w) (bits (k + 1) k w) (bits 0 k w); approximate = bit k w }
+    let x : FixedFields = fixedFields k w in
+    record { value = fixedValue (x .negative) (x .numerator) (x .denominator); approximate = x .approximate }
 
 -- Floating. The slash position e: L bits from bit k-1 on. An e between k-1 and 2^L - 2 is undefined.
 unfoldable pub slashPosition : ℕ → ℕ → ℕ
@@ -49,19 +59,30 @@ unfoldable pub floatingSpecial : Bool → ℕ → Value
 floatingSpecial s f = if eqb (f % 2) 0 then Infinity s else NotANumber
 
 -- Sign s at bit k+L; mark at bit k+L-1; slash position e in the next L bits; field f in bits k-2 to 0.
+abbrev pub floatingFields : ℕ → ℕ → FloatingFields
+floatingFields k w =
+    record {
+      negative = bit (k + slashBits k) w;
+      approximate = bit (k + slashBits k - 1) w;
+      position = slashPosition k w;
+      field = bits 0 (k - 1) w;
+    }
+
 unfoldable pub floatingNumber : ℕ → ℕ → Number
 floatingNumber k w =
-    let s : Bool = bit (k + slashBits k) w in
-    let e : ℕ = slashPosition k w in
-    let f : ℕ = bits 0 (k - 1) w in
+    let x : FloatingFields = floatingFields k w in
     record {
-      value = if leb e (k - 2) then floatingFraction s e f else floatingSpecial s f;
-      approximate = bit (k + slashBits k - 1) w;
+      value = if leb (x .position) (k - 2) then floatingFraction (x .negative) (x .position) (x .field) else floatingSpecial (x .negative) (x .field);
+      approximate = x .approximate;
     }
 
 -- What a word says, where no check stops it.
 unfoldable pub numberOf : Format → ℕ → Number
 numberOf f w = if isFixed f then fixedNumber (f .k) w else floatingNumber (f .k) w
+
+-- Its fields.
+unfoldable pub fieldsOf : Format → ℕ → Fields
+fieldsOf f w = if isFixed f then Fixed (fixedFields (f .k) w) else Floating (floatingFields (f .k) w)
 
 -- A word with bits above its width.
 unfoldable pub isAbove : (width w : ℕ) → Bool
@@ -75,12 +96,23 @@ checkWord f w =
     if not (isFixed f) && slashUndefined (f .k) w then stop 5 0 else
     done tt)
 
+-- A good word is told with its format.
+abbrev pub goodWord : Format → ℕ → GoodWord
+goodWord f w = record { format = f; word = w }
+
+abbrev pub checkedWord : Format → ℕ → Outcome GoodWord
+checkedWord f w = checkWord f w then λ _. done (goodWord f w)
+
 unfoldable pub readWord : Format → ℕ → Outcome Number
 readWord f w = checkWord f w then λ _. done (numberOf f w)
 
--- What a word that nobody has checked says by its bits; in a format whose k doesn't fit there are none to go by.
+-- What a `GoodWord` says, and its fields: what the word of this format does. (One with a k out of bounds is never made, but no type can say
+-- so; its word would have no fields to go by.)
 unfoldable pub numberIn : Format → ℕ → Number
 numberIn f w = if kFits f then numberOf f w else record { value = NotANumber; approximate = false }
+
+unfoldable pub fieldsIn : Format → ℕ → Fields
+fieldsIn f w = if kFits f then fieldsOf f w else Fixed (record { negative = false; numerator = 0; approximate = false; denominator = 0 })
 
 -- ---- writing
 
@@ -166,13 +198,30 @@ partsOf NotANumber = record { negative = false; numerator = 0; denominator = 0 }
 unfoldable pub pairOf : Value → Pair
 pairOf v = pair (partsOf v .numerator) (partsOf v .denominator)
 
--- Demand 3, of a word w that stands for N/D: its pair is the best that the format holds.
+-- ---- demand 3
+
+-- The absolute value of an exact result: N over D where it is finite, and none elsewhere.
+infix 4 _over_
+pub data ExactSize : Type 0 where
+  _over_ : (N D : ℕ) → ExactSize
+  none : ExactSize
+
+-- The value's own: a fraction's parts, zero as 0/1.
+abbrev pub sizeOf : Value → ExactSize
+sizeOf (Fraction p) = p .numerator over p .denominator
+sizeOf (Zero s) = 0 over 1
+sizeOf (Infinity s) = none
+sizeOf NotANumber = none
+
+-- Of a word w that stands for N/D: its pair is the best that the format holds.
 unfoldable pub BestFor : Format → ℕ → ℕ → ℕ → Type 0
 BestFor f N D w = Best (holds f) N D (pairOf (numberOf f w .value))
 
--- The same where the word stands for a finite value, zero as 0/1; of other values it says nothing.
+-- The same of a result; of one that isn't finite it says nothing.
+abbrev pub BestOf : Format → ExactSize → ℕ → Type 0
+BestOf f (N over D) w = BestFor f N D w
+BestOf f none w = Unit {0}
+
+-- The same of a value that is written.
 unfoldable pub BestWord : Format → Value → ℕ → Type 0
-BestWord f (Fraction p) w = BestFor f (p .numerator) (p .denominator) w
-BestWord f (Zero s) w = BestFor f 0 1 w
-BestWord f (Infinity s) w = Unit {0}
-BestWord f NotANumber w = Unit {0}
+BestWord f v w = BestOf f (sizeOf v) w

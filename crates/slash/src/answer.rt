@@ -1,6 +1,5 @@
 // How every call of the library answers.
 ghost use mathlib.Core.Path.{_≡_};
-ghost use Rattle.slash.specs.Answers.{outcome, orZero};
 
 // A stop: its number, and its place (an index from 0, a line from 1, else 0).
 pub struct Stop {
@@ -8,22 +7,22 @@ pub struct Stop {
     pub place: u64,
 }
 
-// The answer of a call that makes one number: a word, a width, a count.
-pub enum Answer {
+// The answer of a call that makes nothing: a check, or one whose result stands in lent memory.
+pub enum Told {
+    Done,
+    Stopped(Stop),
+}
+
+// The answer of a call that makes a word.
+pub enum Written {
     Done(u64),
     Stopped(Stop),
 }
 
-impl Answer {
-    // The number that the call made, or 0 where it stopped.
-    pub fn or_zero(self) -> u64
-        ensures { λ r. ⌜ r ≡ orZero (outcome self) ⌝ }
-    {
-        match self {
-            Answer::Done(n) => n,
-            Answer::Stopped(_) => 0,
-        }
-    }
+// The answer of a call that makes another number: a width, a count, a divisor.
+pub enum Answer {
+    Done(u64),
+    Stopped(Stop),
 }
 
 impl Stop {

@@ -2,11 +2,12 @@
 ghost use mathlib.Core.Path.{_≡_};
 ghost use Prim.Native.Nat.{_≤_, _<_, _^_};
 ghost use Rattle.slash.specs.Bits.{bitOf};
-ghost use Rattle.slash.specs.Words.{fixedValue, fixedNumber, fixedWord};
+ghost use Rattle.slash.specs.Words.{fixedFields, fixedValue, fixedNumber, fixedWord};
 use crate::bits::bit_of;
 use crate::bits::field;
 use crate::bits::flag;
 use crate::bits::pack;
+use crate::fields::FixedFields;
 use crate::number::Parts;
 use crate::number::Value;
 
@@ -36,11 +37,25 @@ fn parts_value(negative: bool, n: u64, d: u64) -> Value
     }
 }
 
+// The sign lies k bits above the numerator's lowest: one addition less, so that what reads a word
+// stays small enough to be put in place of its call.
 pub(crate) fn value(k: u64, w: u64) -> Value
     requires { ⌜ k ≤ 31 ⌝ }
     ensures { λ r. ⌜ r ≡ fixedNumber k w .value ⌝ }
 {
-    parts_value(flag(w, 2 * k + 1), field(w, k + 1, k), field(w, 0, k))
+    parts_value(flag(w >> (k + 1), k), field(w, k + 1, k), field(w, 0, k))
+}
+
+pub(crate) fn fields(k: u64, w: u64) -> FixedFields
+    requires { ⌜ k ≤ 31 ⌝ }
+    ensures { λ r. ⌜ r ≡ fixedFields k w ⌝ }
+{
+    FixedFields {
+        negative: flag(w, 2 * k + 1),
+        numerator: field(w, k + 1, k),
+        approximate: flag(w, k),
+        denominator: field(w, 0, k),
+    }
 }
 
 pub(crate) fn is_approximate(k: u64, w: u64) -> bool

@@ -3,7 +3,7 @@ ghost use mathlib.Core.Path.{_≡_};
 ghost use Prim.Native.Nat.{_+_, _-_, _≤_, _<_, _^_};
 ghost use Rattle.slash.specs.Bits.{bitOf, bitCount};
 ghost use Rattle.slash.specs.Formats.{slashBits};
-ghost use Rattle.slash.specs.Words.{slashPosition, slashUndefined, floatingFraction, floatingSpecial, floatingNumber, floatingWord, floatingPair, floatingNan};
+ghost use Rattle.slash.specs.Words.{slashPosition, slashUndefined, floatingFields, floatingFraction, floatingSpecial, floatingNumber, floatingWord, floatingPair, floatingNan};
 use crate::bits::below;
 use crate::bits::bit_count;
 use crate::bits::bit_of;
@@ -11,6 +11,7 @@ use crate::bits::field;
 use crate::bits::flag;
 use crate::bits::pack;
 use crate::bits::power;
+use crate::fields::FloatingFields;
 use crate::format::slash_bits;
 use crate::number::Parts;
 use crate::number::Value;
@@ -20,6 +21,19 @@ fn slash_position(k: u64, w: u64) -> u64
     ensures { λ r. ⌜ r ≡ slashPosition k w ⌝ }
 {
     field(w, k - 1, slash_bits(k))
+}
+
+pub(crate) fn fields(k: u64, w: u64) -> FloatingFields
+    requires { ⌜ (2 ≤ k) × (k ≤ 32) ⌝ }
+    ensures { λ r. ⌜ r ≡ floatingFields k w ⌝ }
+{
+    let sign = k + slash_bits(k);
+    FloatingFields {
+        negative: flag(w, sign),
+        approximate: flag(w, sign - 1),
+        position: slash_position(k, w),
+        field: below(w, k - 1),
+    }
 }
 
 pub(crate) fn is_undefined(k: u64, w: u64) -> bool

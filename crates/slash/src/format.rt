@@ -2,10 +2,11 @@
 ghost use mathlib.Core.Path.{_≡_};
 ghost use mathlib.Core.Bool.{true};
 ghost use Prim.Native.Nat.{_≤_};
-ghost use Rattle.slash.specs.Answers.{outcome, madeOutcome};
-ghost use Rattle.slash.specs.Formats.{known, kFits, makeFormat, ofKnown, slashBits, widthOf, largestPart};
+ghost use Rattle.slash.specs.Answers.{outcome, toldOutcome, madeOutcome};
+ghost use Rattle.slash.specs.Formats.{known, kFits, checkFormat, makeFormat, ofKnown, slashBits, widthOf, largestPart};
 use crate::answer::Answer;
 use crate::answer::Stop;
+use crate::answer::Told;
 use crate::bits::bit_count;
 use crate::bits::power;
 
@@ -37,10 +38,20 @@ impl Format {
         ensures { λ r. ⌜ madeOutcome r ≡ makeFormat kind k ⌝ }
     {
         let f = Format { kind: kind, k: k };
-        if f.is_known() {
-            Made::Done(f)
+        match f.check() {
+            Told::Stopped(s) => Made::Stopped(s),
+            Told::Done => Made::Done(f),
+        }
+    }
+
+    // Whether the format is refused: what every call that takes one asks first.
+    pub fn check(self) -> Told
+        ensures { λ r. ⌜ toldOutcome r ≡ checkFormat self ⌝ }
+    {
+        if self.is_known() {
+            Told::Done
         } else {
-            Made::Stopped(Stop::plain(Stop::FORMAT))
+            Told::Stopped(Stop::plain(Stop::FORMAT))
         }
     }
 
@@ -48,10 +59,9 @@ impl Format {
     pub fn width(self) -> Answer
         ensures { λ r. ⌜ outcome r ≡ ofKnown self (widthOf self) ⌝ }
     {
-        if self.is_known() {
-            Answer::Done(self.word_bits())
-        } else {
-            Answer::Stopped(Stop::plain(Stop::FORMAT))
+        match self.check() {
+            Told::Stopped(s) => Answer::Stopped(s),
+            Told::Done => Answer::Done(self.word_bits()),
         }
     }
 
@@ -59,10 +69,9 @@ impl Format {
     pub fn largest_numerator(self) -> Answer
         ensures { λ r. ⌜ outcome r ≡ ofKnown self (largestPart self) ⌝ }
     {
-        if self.is_known() {
-            Answer::Done(self.largest_part())
-        } else {
-            Answer::Stopped(Stop::plain(Stop::FORMAT))
+        match self.check() {
+            Told::Stopped(s) => Answer::Stopped(s),
+            Told::Done => Answer::Done(self.largest_part()),
         }
     }
 
@@ -70,10 +79,9 @@ impl Format {
     pub fn largest_denominator(self) -> Answer
         ensures { λ r. ⌜ outcome r ≡ ofKnown self (largestPart self) ⌝ }
     {
-        if self.is_known() {
-            Answer::Done(self.largest_part())
-        } else {
-            Answer::Stopped(Stop::plain(Stop::FORMAT))
+        match self.check() {
+            Told::Stopped(s) => Answer::Stopped(s),
+            Told::Done => Answer::Done(self.largest_part()),
         }
     }
 

@@ -3,6 +3,7 @@
 // place.
 mod answer;
 mod bits;
+mod fields;
 mod fixed;
 mod floating;
 mod format;
@@ -13,6 +14,11 @@ mod writing;
 
 pub use answer::Answer;
 pub use answer::Stop;
+pub use answer::Told;
+pub use answer::Written;
+pub use fields::Fields;
+pub use fields::FixedFields;
+pub use fields::FloatingFields;
 pub use format::Format;
 pub use format::Made;
 pub use number::Number;
@@ -21,11 +27,10 @@ pub use number::Value;
 pub use number::is_nan;
 pub use number::parts_of;
 pub use reading::Checked;
+pub use reading::GoodWord;
 pub use reading::Reading;
 pub use reading::check;
-pub use reading::is_approximate;
 pub use reading::read;
-pub use reading::value;
 pub use rounding::Rounded;
 pub use rounding::Rounding;
 pub use rounding::round;

@@ -2,17 +2,28 @@
 ghost use mathlib.Core.Path.{_≡_};
 ghost use Prim.Native.Nat.{_<_};
 ghost use Rattle.slash.specs.Answers.{checkOutcome, readingOutcome};
-ghost use Rattle.slash.specs.Words.{isAbove, checkWord, numberIn, readWord};
+ghost use Rattle.slash.specs.Words.{isAbove, checkedWord, fieldsIn, numberIn, readWord};
 use crate::answer::Stop;
+use crate::answer::Told;
+use crate::fields::Fields;
+use crate::fields::FixedFields;
 use crate::fixed;
 use crate::floating;
 use crate::format::Format;
 use crate::number::Number;
 use crate::number::Value;
 
+// A word that `check` found good, with its format. The fields are private, so that only `check` makes
+// one; but the language doesn't let a type say what holds of its fields, so that each method covers
+// a k out of bounds, which never comes.
+pub struct GoodWord {
+    format: Format,
+    word: u64,
+}
+
 // What checking a word answers.
 pub enum Checked {
-    Good,
+    Good(GoodWord),
     Stopped(Stop),
 }
 
@@ -30,51 +41,79 @@ fn is_above(w: u64, width: u64) -> bool
     2 <= w >> (width - 1)
 }
 
-// Whether a word of a format is refused. Checking, the value and the mark are functions of their own:
+// A word of a format, if it is good, or its stop. Checking, the value and the mark are functions of their own:
 // together, as `read`, they are too large for the compiler to put in place of a call.
 pub fn check(f: Format, w: u64) -> Checked
-    ensures { λ r. ⌜ checkOutcome r ≡ checkWord f w ⌝ }
+    ensures { λ r. ⌜ checkOutcome r ≡ checkedWord f w ⌝ }
 {
-    if !f.is_known() {
-        return Checked::Stopped(Stop::plain(Stop::FORMAT));
+    if let Told::Stopped(s) = f.check() {
+        return Checked::Stopped(s);
     }
     if is_above(w, f.word_bits()) {
         return Checked::Stopped(Stop::plain(Stop::WIDTH));
     }
+    let good = GoodWord { format: f, word: w };
     if f.kind == Format::FIXED {
-        return Checked::Good;
+        return Checked::Good(good);
     }
     if floating::is_undefined(f.k, w) {
         return Checked::Stopped(Stop::plain(Stop::SLASH));
     }
-    Checked::Good
+    Checked::Good(good)
 }
 
-// The value that a word says; not-a-number in a format whose k is out of bounds.
-pub fn value(f: Format, w: u64) -> Value
-    ensures { λ r. ⌜ r ≡ numberIn f w .value ⌝ }
-{
-    if !f.k_fits() {
-        return Value::NotANumber;
+impl GoodWord {
+    // The value that the word says.
+    pub fn value(self) -> Value
+        ensures { λ r. ⌜ r ≡ numberIn (self .format) (self .word) .value ⌝ }
+    {
+        let f = self.format;
+        let w = self.word;
+        if !f.k_fits() {
+            return Value::NotANumber;
+        }
+        if f.kind == Format::FIXED {
+            fixed::value(f.k, w)
+        } else {
+            floating::value(f.k, w)
+        }
     }
-    if f.kind == Format::FIXED {
-        fixed::value(f.k, w)
-    } else {
-        floating::value(f.k, w)
-    }
-}
 
-// Whether a word is marked as approximate; never in a format whose k is out of bounds.
-pub fn is_approximate(f: Format, w: u64) -> bool
-    ensures { λ r. ⌜ r ≡ numberIn f w .approximate ⌝ }
-{
-    if !f.k_fits() {
-        return false;
+    // Whether the word is marked as approximate.
+    pub fn is_approximate(self) -> bool
+        ensures { λ r. ⌜ r ≡ numberIn (self .format) (self .word) .approximate ⌝ }
+    {
+        let f = self.format;
+        let w = self.word;
+        if !f.k_fits() {
+            return false;
+        }
+        if f.kind == Format::FIXED {
+            fixed::is_approximate(f.k, w)
+        } else {
+            floating::is_approximate(f.k, w)
+        }
     }
-    if f.kind == Format::FIXED {
-        fixed::is_approximate(f.k, w)
-    } else {
-        floating::is_approximate(f.k, w)
+
+    // Its fields, for those that store it in another way.
+    pub fn fields(self) -> Fields
+        ensures { λ r. ⌜ r ≡ fieldsIn (self .format) (self .word) ⌝ }
+    {
+        let f = self.format;
+        let w = self.word;
+        if !f.k_fits() {
+            return Fields::Fixed(FixedFields {
+                negative: false,
+                numerator: 0,
+                approximate: false,
+                denominator: 0,
+            });
+        }
+        if f.kind == Format::FIXED {
+            Fields::Fixed(fixed::fields(f.k, w))
+        } else {
+            Fields::Floating(floating::fields(f.k, w))
+        }
     }
 }
 
@@ -84,11 +123,11 @@ pub fn read(f: Format, w: u64) -> Reading
 {
     match check(f, w) {
         Checked::Stopped(s) => Reading::Stopped(s),
-        Checked::Good => {
-            let v = value(f, w);
+        Checked::Good(g) => {
+            let v = g.value();
             Reading::Done(Number {
                 value: v,
-                approximate: is_approximate(f, w),
+                approximate: g.is_approximate(),
             })
         }
     }

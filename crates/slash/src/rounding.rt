@@ -8,6 +8,7 @@ ghost use Rattle.slash.specs.Answers.{roundingOutcome, WhenDone};
 ghost use Rattle.slash.specs.Formats.{known, holds};
 ghost use Rattle.slash.specs.Rounding.{rounded, roundRatio};
 use crate::answer::Stop;
+use crate::answer::Told;
 use crate::bits::bit_count;
 use crate::bits::power;
 use crate::format::Format;
@@ -83,8 +84,8 @@ pub fn round(f: Format, n: u64, d: u64) -> Rounding
     ensures rounded { λ r. ⌜ roundingOutcome r ≡ roundRatio f n d ⌝ }
     ensures best { λ r. ⌜ WhenDone (roundingOutcome r) (λ x. Best (holds f) n d (pair (x .numerator) (x .denominator))) ⌝ }
 {
-    if !f.is_known() {
-        return Rounding::Stopped(Stop::plain(Stop::FORMAT));
+    if let Told::Stopped(s) = f.check() {
+        return Rounding::Stopped(s);
     }
     if d == 0 {
         return Rounding::Stopped(Stop::plain(Stop::DENOMINATOR));

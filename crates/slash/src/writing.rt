@@ -3,17 +3,17 @@ ghost use mathlib.Core.Path.{_≡_};
 ghost use mathlib.Core.Bool.{true, false};
 ghost use Rattle.convergents.specs.Pairs.{pair};
 ghost use Rattle.convergents.specs.Rounding.{held};
-ghost use Rattle.slash.specs.Answers.{outcome, WhenDone};
+ghost use Rattle.slash.specs.Answers.{writtenOutcome, WhenDone};
 ghost use Rattle.slash.specs.Formats.{known, holds, formatOf};
 ghost use Rattle.slash.specs.Steps.{partsWord};
 ghost use Rattle.slash.specs.Words.{pairWord, nanWord, wordFor, isOverZero, writeNumber, exactRatio, BestFor, BestWord};
-use crate::answer::Answer;
 use crate::answer::Stop;
+use crate::answer::Told;
+use crate::answer::Written;
 use crate::fixed;
 use crate::floating;
 use crate::format::Format;
 use crate::number::Number;
-use crate::number::Parts;
 use crate::number::Value;
 use crate::number::parts_of;
 use crate::rounding::last_held;
@@ -88,30 +88,30 @@ fn is_over_zero(v: Value) -> bool
 }
 
 // The canonical word of a number in a format: a fraction is rounded into it.
-pub fn write(f: Format, x: Number) -> Answer
-    ensures written { λ r. ⌜ outcome r ≡ writeNumber f x ⌝ }
-    ensures best { λ r. ⌜ WhenDone (outcome r) (λ w. BestWord f (x .value) w) ⌝ }
+pub fn write(f: Format, x: Number) -> Written
+    ensures written { λ r. ⌜ writtenOutcome r ≡ writeNumber f x ⌝ }
+    ensures best { λ r. ⌜ WhenDone (writtenOutcome r) (λ w. BestWord f (x .value) w) ⌝ }
 {
-    if !f.is_known() {
-        return Answer::Stopped(Stop::plain(Stop::FORMAT));
+    if let Told::Stopped(s) = f.check() {
+        return Written::Stopped(s);
     }
     let v = x.value;
     if is_over_zero(v) {
-        return Answer::Stopped(Stop::plain(Stop::DENOMINATOR));
+        return Written::Stopped(Stop::plain(Stop::DENOMINATOR));
     }
-    Answer::Done(value_word(f, x.approximate, v))
+    Written::Done(value_word(f, x.approximate, v))
 }
 
 // The word of n/d, exact, rounded into a format.
-pub fn round_word(f: Format, n: u64, d: u64) -> Answer
-    ensures written { λ r. ⌜ outcome r ≡ writeNumber f (exactRatio n d) ⌝ }
-    ensures best { λ r. ⌜ WhenDone (outcome r) (λ w. BestFor f n d w) ⌝ }
+pub fn round_word(f: Format, n: u64, d: u64) -> Written
+    ensures written { λ r. ⌜ writtenOutcome r ≡ writeNumber f (exactRatio n d) ⌝ }
+    ensures best { λ r. ⌜ WhenDone (writtenOutcome r) (λ w. BestFor f n d w) ⌝ }
 {
-    if !f.is_known() {
-        return Answer::Stopped(Stop::plain(Stop::FORMAT));
+    if let Told::Stopped(s) = f.check() {
+        return Written::Stopped(s);
     }
     if d == 0 {
-        return Answer::Stopped(Stop::plain(Stop::DENOMINATOR));
+        return Written::Stopped(Stop::plain(Stop::DENOMINATOR));
     }
-    Answer::Done(parts_word(f.kind, f.k, false, false, n, d))
+    Written::Done(parts_word(f.kind, f.k, false, false, n, d))
 }

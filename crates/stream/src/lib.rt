@@ -4,7 +4,7 @@ mod input;
 ghost use mathlib.Core.Path.{_≡_};
 ghost use mathlib.Core.Logic.{_⊎_};
 ghost use lib.ListN.{length};
-ghost use Rattle.stream.specs.Runs.{Tells};
+ghost use Rattle.stream.specs.Runs.{runOutcome, Tells};
 use listing::End;
 use listing::Night;
 use slash::Stop;
@@ -55,7 +55,7 @@ fn refuse(to: i32, stop: Stop) -> Run
 // its line feed has come. A turn that doesn't end it lists a line, or reads on where no line is whole,
 // so that it ends. (The night is the recording's at each turn, proved, so that it is never none.)
 pub fn list(from: i32, to: i32) -> Run
-    ensures { λ r. ⌜ Tells r ⌝ }
+    ensures { λ r. ⌜ Tells (runOutcome r) ⌝ }
 {
     let mut bytes = input_buffer();
     let mut text = output_buffer();
@@ -112,7 +112,7 @@ fn report(run: Run, errors: i32) {
 
 // The same, and a listing that is cut is told: what the program `night` does.
 pub fn night(from: i32, to: i32, errors: i32) -> Run
-    ensures { λ r. ⌜ Tells r ⌝ }
+    ensures { λ r. ⌜ Tells (runOutcome r) ⌝ }
 {
     let run = list(from, to);
     report(run, errors);

@@ -1,15 +1,19 @@
 -- Columns: a word's fraction as it is read, and how long the columns are. Assumes nothing.
 use mathlib.Core.Path.{_≡_, refl, sym, ap, _∙_, subst}
-use mathlib.Core.Bool.{Bool, true, _&&_}
+use mathlib.Core.Bool.{Bool, true, false, _&&_}
 use mathlib.Core.List.{List, [], _∷_, _++_}
 use Prim.Native.Nat.{ℕ, _+_, _*_, _/_, _%_, _^_, _≤_, _<_}
 use native.Mathlib.Omega.{arith}
 use native.Mathlib.Nat.{mod-lt, div-lt-iff-lt-mul, div-add-mod'}
-use lib.Dec.{leb, ltb}
+use lib.Dec.{leb}
+use borrow.Author.Tests.{lt-leb, lt-ltb, le-ltb}
 use lib.ListN.{length, length-append}
 use Rattle.convergents.specs.Pairs.{Pair, pair}
-use Rattle.slash.specs.Formats.{kFits}
-use Rattle.slash.specs.Words.{numberIn, partsOf, pairOf}
+use Rattle.slash.specs.Answers.{stop}
+use Rattle.slash.specs.Formats.{kFits, known, widthOf}
+use Rattle.slash.specs.Words.{numberIn, checkWord, isAbove, partsOf, pairOf}
+use Rattle.slash.proofs.AnswerLaws.{no-stop}
+use Rattle.slash.proofs.WordLaws.{check-fixed}
 use Rattle.slash.specs.declared.format.Format.{Format}
 use Rattle.slash.specs.declared.number.Parts.{Parts}
 use Rattle.slash.specs.declared.number.Value.{Value}
@@ -24,6 +28,14 @@ use Rattle.breaths.proofs.RatioLaws.{fraction-small}
 use Rattle.text.proofs.NumberLaws.{decimal-small, decimal-length, hexadecimal-length}
 
 -- ---- a fraction from its word
+
+-- a word of sign 0 is good
+pub unsigned-good : (w : ℕ) (f : Format) → f ≡ format → w < 2 ^ 31 → {n p : ℕ} → stop n p ≡ checkWord f w → ⊥
+unfolding known kFits isAbove widthOf
+unsigned-good w f fe l e =
+    let small : w < 2 ^ 32 = omega arith in
+    let below : leb (2 ^ 32) w ≡ false = lt-leb _ _ small in
+    no-stop (e ∙ ap (λ (g : Format). checkWord g w) fe ∙ sym (check-fixed format w refl below refl))
 
 -- the parts p of the value v that the word says
 module _ (w : ℕ) (f : Format) (fe : f ≡ format) (v : Value) (ve : v ≡ numberIn f w .value) (p : Parts) (pe : p ≡ partsOf v) where
@@ -98,9 +110,15 @@ module _ (r : Ratio) where
 -- ---- which ratios are shown
 
 module _ (w n d : ℕ) (e : pair n d ≡ fractionOf w) where
-  pub word-shown : (ltb w (2 ^ 31) && (leb 1 d && leb n d)) ≡ isShown (Word w)
+  pub word-shown : w < 2 ^ 31 → (leb 1 d && leb n d) ≡ isShown (Word w)
   unfolding isShown
-  word-shown = ap (λ (x : Pair). ltb w (2 ^ 31) && (leb 1 (x .denominator) && leb (x .numerator) (x .denominator))) e
+  word-shown l =
+      ap (λ (x : Pair). leb 1 (x .denominator) && leb (x .numerator) (x .denominator)) e
+      ∙ ap (λ (b : Bool). b && (leb 1 (fractionOf w .denominator) && leb (fractionOf w .numerator) (fractionOf w .denominator))) (sym (lt-ltb _ _ l))
+
+pub signed-shown : (w : ℕ) → 2 ^ 31 ≤ w → false ≡ isShown (Word w)
+unfolding isShown
+signed-shown w l = rw (le-ltb _ _ l) refl
 
 module _ (r : Ratio) where
   pub void-shown : r ≡ Void → true ≡ isShown r

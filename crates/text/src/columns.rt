@@ -1,6 +1,6 @@
 // The columns of a printed line: word, fraction, percentage.
 ghost use mathlib.Core.Path.{_≡_};
-ghost use Prim.Native.Nat.{_≤_, _<_};
+ghost use Prim.Native.Nat.{_≤_, _<_, _^_};
 ghost use Rattle.convergents.specs.Pairs.{pair};
 ghost use Rattle.breaths.specs.Breaths.{fractionOf};
 ghost use Rattle.text.specs.Columns.{thousandths, percentage, fractionText, shares, columns};
@@ -13,6 +13,7 @@ use crate::number::put_decimal;
 use crate::number::put_hexadecimal;
 use crate::number::put_text;
 use breaths::Ratio;
+use slash::Checked;
 
 // Two parts, as a word has them.
 pub(crate) struct Fraction {
@@ -20,11 +21,18 @@ pub(crate) struct Fraction {
     pub(crate) denominator: u32,
 }
 
-// The fraction of a word: no part has more than 15 bits.
+// The fraction of a word of sign 0, which is good: no part has more than 15 bits.
 fn word_fraction(w: u64) -> Fraction
+    requires { ⌜ w < 2 ^ 31 ⌝ }
     ensures { λ r. ⌜ pair (r .numerator) (r .denominator) ≡ fractionOf w ⌝ }
 {
-    let p = slash::parts_of(slash::value(Ratio::format(), w));
+    let Checked::Good(x) = slash::check(Ratio::format(), w) else {
+        return Fraction {
+            numerator: 0,
+            denominator: 0,
+        };
+    };
+    let p = slash::parts_of(x.value());
     Fraction {
         numerator: p.numerator as u32,
         denominator: p.denominator as u32,
@@ -38,8 +46,11 @@ const SIGN: u64 = 2147483648;
 fn is_shown_word(w: u64) -> bool
     ensures { λ r. ⌜ r ≡ isShown (Ratio.Word w) ⌝ }
 {
+    if SIGN <= w {
+        return false;
+    }
     let x = word_fraction(w);
-    (w < SIGN) & ((1 <= x.denominator) & (x.numerator <= x.denominator))
+    (1 <= x.denominator) & (x.numerator <= x.denominator)
 }
 
 // Whether a line shows it.

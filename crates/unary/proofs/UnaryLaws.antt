@@ -15,25 +15,30 @@ use mir.Syntax.{w64}
 use mir.Val.{Fits, SFits}
 use borrow.Author.Tests.{eq-eqb, ne-eqb, lt-leb}
 use Rattle.convergents.specs.Choice.{if_then_else_}
-use Rattle.slash.specs.Answers.{Outcome, stop, done, _then_, orZero, WhenDone}
+use Rattle.slash.specs.Answers.{Outcome, stop, done, _then_, outcome, orZero, WhenDone}
 use Rattle.slash.specs.Bits.{bit, bitOf}
-use Rattle.slash.specs.Formats.{known, ofKnown, widthOf, holds}
+use Rattle.slash.specs.Formats.{known, checkFormat, ofKnown, widthOf, holds}
 use Rattle.slash.specs.Rounding.{rounded}
 use Rattle.slash.specs.Words.{numberOf, numberIn, checkWord, readWord, wordFor, isNan, isOverZero, writeNumber, BestWord}
 use Rattle.slash.specs.Canonical.{HeldParts, HeldValue, CanonicalWord}
-use Rattle.slash.proofs.AnswerLaws.{no-stop, some-not, when-checked}
+use Rattle.slash.proofs.AnswerLaws.{done-inj, no-stop, then-stop, checked-stop, checked-made, some-not, when-checked}
 use Rattle.slash.proofs.BitLaws.{one-shl, pow-next}
-use Rattle.slash.proofs.FormatLaws.{of-known, known-k, slash-bits-pos, width-fixed, width-floating, width-range, format-limit, fixed-holds, holds-both, floating-holds, holds-sum}
+use Rattle.slash.proofs.FormatLaws.{format-good, of-known, known-k, slash-bits-pos, width-fixed, width-floating, width-range, format-limit, fixed-holds, holds-both, floating-holds, holds-sum}
 use Rattle.slash.proofs.RoundingLaws.{held-exact}
 use Rattle.slash.proofs.WordLaws.{checked-known, checked-number, checked-read}
 use Rattle.slash.proofs.WriteLaws.{write-done, word-best}
 use Rattle.slash.proofs.Canonical.{held-small, read-known, read-held, written-canonical}
+use Rattle.slash.specs.declared.answer.Stop.{Stop}
+use Rattle.slash.specs.declared.answer.Answer.{Answer}
+use Rattle.slash.specs.declared.answer.Answer.the-variants as Answer
 use Rattle.slash.specs.declared.format.Format.{Format}
 use Rattle.slash.specs.declared.number.Parts.{Parts}
 use Rattle.slash.specs.declared.number.Value.{Value}
 use Rattle.slash.specs.declared.number.Value.the-variants.{Fraction, Zero, Infinity, NotANumber}
 use Rattle.slash.specs.declared.number.Number.{Number}
 use Rattle.slash.specs.Signed.{signedOf}
+use Rattle.vectors.specs.Each.{told}
+use Rattle.vectors.proofs.EachLaws.{told-checked}
 use Rattle.unary.specs.Floor.{floorBy, ceilingBy, aboveFloor}
 use Rattle.slash.specs.Steps.{SmallParts}
 use Rattle.unary.specs.Steps.{SmallValue}
@@ -64,19 +69,22 @@ module _ (h w : ℕ) (l : h < 64) where
   unfolding withHighest bitOf
   not-set s e = rw e (omega (arith, rest-is))
 
--- the width that a format tells
-module _ (f : Format) (known-it : known f ≡ true) (o : Outcome ℕ) (told : o ≡ ofKnown f (widthOf f)) where
-  pub width-word : (n : ℕ) → n ≡ orZero o → n ≡ widthOf f
-  unfolding orZero
-  width-word n e = e ∙ ap orZero (told ∙ sym (of-known f (widthOf f) known-it))
+-- the width that a known format tells
+module _ (f : Format) (known-it : known f ≡ true) {a : Answer} (told-it : outcome a ≡ ofKnown f (widthOf f)) where
+  pub width-no-stop : {s : Stop} → a ≡ Answer.Stopped s → ⊥
+  width-no-stop e = no-stop (sym (ap outcome e) ∙ told-it ∙ sym (of-known f (widthOf f) known-it))
 
-  -- a word has from 4 to 64 bits
-  pub width-some : (n : ℕ) → n ≡ orZero o → (4 ≤ n) × (n ≤ 64)
-  width-some n e = go (ℕ-discrete (f .kind) 1)
-    where
-      go : Dec (f .kind ≡ 1) → (4 ≤ n) × (n ≤ 64)
-      go (yes k) = omega (arith, width-word n e, width-range f known-it, width-fixed f k, known-k f known-it)
-      go (no k) = omega (arith, width-word n e, width-range f known-it, width-floating f k _ refl, known-k f known-it, slash-bits-pos (f .k) (known-k f known-it .0))
+  module _ {n : ℕ} (e : a ≡ Answer.Done n) where
+    pub width-word : n ≡ widthOf f
+    width-word = done-inj (sym (ap outcome e) ∙ told-it ∙ sym (of-known f (widthOf f) known-it))
+
+    -- a word has from 4 to 64 bits
+    pub width-some : (4 ≤ n) × (n ≤ 64)
+    width-some = go (ℕ-discrete (f .kind) 1)
+      where
+        go : Dec (f .kind ≡ 1) → (4 ≤ n) × (n ≤ 64)
+        go (yes k) = omega (arith, width-word, width-range f known-it, width-fixed f k, known-k f known-it)
+        go (no k) = omega (arith, width-word, width-range f known-it, width-floating f k _ refl, known-k f known-it, slash-bits-pos (f .k) (known-k f known-it .0))
 
 pub touch-done : (f : Format) (place code w r : ℕ) → r ≡ withHighest place (newSign code (bit place w)) w → place ≡ signBit f → r ≡ signTouched f code w
 unfolding signTouched
@@ -258,43 +266,72 @@ module _ (f : Format) (code w : ℕ) (c : checkWord f w ≡ done tt) (v : Value)
       let written : done (wordFor f (exact .approximate) (exact .value)) ≡ writeNumber f exact = write-done f exact (checked-known f w c) (over-exact f code (X .value) held) in
       made r (re ∙ ap orZero (oe ∙ same ∙ sym written) ∙ rw (test t) refl)
 
+  -- a fraction's, and any other's
+  pub good-fraction : (p : Parts) → v ≡ Fraction p → (a : Bool) (r : ℕ) → b ≡ false → a ≡ numberIn f w .approximate
+      → r ≡ orZero (writeNumber f (record { value = Fraction (exactParts code p); approximate = a })) → Made r
+  unfolding exactUnary
+  good-fraction p e a r t ae re = good-written _ (Fraction (exactParts code p)) a r t (rw e refl) ae refl re
+
+pub fraction-written : (f : Format) (code : ℕ) (p q : Parts) (m : Bool) (o : Outcome ℕ) (r : ℕ) → q ≡ exactParts code p
+    → o ≡ writeNumber f (record { value = Fraction q; approximate = m }) → r ≡ orZero o → r ≡ orZero (writeNumber f (record { value = Fraction (exactParts code p); approximate = m }))
+fraction-written f code p q m o r qe oe re = re ∙ rw (oe, qe) refl
+
+pub special-written : (f : Format) (code : ℕ) (v y : Value) (m : Bool) (o : Outcome ℕ) (r : ℕ) → y ≡ exactUnary code v
+    → o ≡ writeNumber f (record { value = y; approximate = m }) → r ≡ orZero o → r ≡ orZero (writeNumber f (record { value = exactUnary code v; approximate = m }))
+special-written f code v y m o r ye oe re = re ∙ rw (oe, ye) refl
+
 -- a call's stops first, and then its word
 module _ (f : Format) (code w : ℕ) where
-  pub unary-checked : (unaryStops f code w then λ _. done (unaryResult f code w (numberOf f w))) ≡ unaryWord f code w
+  unary-checked : (unaryStops f code w then λ _. done (unaryResult f code w (numberOf f w))) ≡ unaryWord f code w
   unfolding unaryWord
   unary-checked = refl
 
-  pub unary-good : done tt ≡ unaryStops f code w → checkWord f w ≡ done tt
+  unary-good : done tt ≡ unaryStops f code w → checkWord f w ≡ done tt
   unfolding unaryStops
-  unary-good e = go (known f) (isUnary code) e
+  unary-good e = go (checkFormat f) (isUnary code) e
     where
-      go : (k u : Bool) → done tt ≡ (if k then if not u then stop 2 0 else checkWord f w else stop 1 0) → checkWord f w ≡ done tt
-      go false u h = absurd (no-stop (sym h))
-      go true false h = absurd (no-stop (sym h))
-      go true true h = sym h
-
-  pub check-format : known f ≡ false → stop 1 0 ≡ unaryStops f code w
-  unfolding unaryStops
-  check-format h = rw h refl
-
-  pub check-code : known f ≡ true → isUnary code ≡ false → stop 2 0 ≡ unaryStops f code w
-  unfolding unaryStops
-  check-code h i = rw (h, i) refl
-
-  pub check-word : known f ≡ true → isUnary code ≡ true → checkWord f w ≡ unaryStops f code w
-  unfolding unaryStops
-  check-word h i = rw (h, i) refl
-
-module _ (f : Format) (code w : ℕ) where
-  -- what holds of the word that a code makes of a good word holds of what `unary` makes
-  pub when-unary : (P : ℕ → Type 0) → (checkWord f w ≡ done tt → P (unaryResult f code w (numberOf f w))) → WhenDone (unaryWord f code w) P
-  when-unary P good = when-checked (unaryStops f code w) (unaryResult f code w (numberOf f w)) (unary-checked f code w) P (λ e. good (unary-good f code w e))
-
-  held-number : checkWord f w ≡ done tt → HeldValue f (numberOf f w .value)
-  held-number c = read-held f (checked-known f w c) w (numberOf f w) (checked-read f w c)
+      go : (k : Outcome (Unit {0})) (u : Bool) → done tt ≡ (k then λ _. if not u then stop 2 0 else checkWord f w) → checkWord f w ≡ done tt
+      go (stop n p) u h = absurd (no-stop (sym h))
+      go (done x) false h = absurd (no-stop (sym h))
+      go (done x) true h = sym h
 
   abbrev pub BestHere : ℕ → Type 0
   BestHere v = 3 ≤ code → BestWord f (exactUnary code (numberOf f w .value)) v
+
+  -- the stops of `unary`
+  pub stop-format : {n p : ℕ} → stop n p ≡ checkFormat f → stop n p ≡ unaryWord f code w
+  unfolding unaryStops
+  stop-format e = checked-stop _ _ unary-checked (then-stop _ e)
+
+  module _ (h : known f ≡ true) where
+    pub stop-code : isUnary code ≡ false → stop 2 0 ≡ unaryWord f code w
+    unfolding unaryStops
+    stop-code i =
+        let e : stop 2 0 ≡ unaryStops f code w = rw (format-good f h, i) refl in
+        checked-stop _ _ unary-checked e
+
+    module _ (i : isUnary code ≡ true) where
+      check-word : checkWord f w ≡ unaryStops f code w
+      unfolding unaryStops
+      check-word = rw (format-good f h, i) refl
+
+      pub stop-word : {n p : ℕ} → stop n p ≡ checkWord f w → stop n p ≡ unaryWord f code w
+      stop-word e = checked-stop _ _ unary-checked (e ∙ check-word)
+
+      -- a vector form stops as the check of its words does
+      pub unary-told : told (unaryWord f code w) ≡ checkWord f w
+      unary-told = told-checked _ _ _ unary-checked ∙ sym check-word
+
+      -- and its word, of a good word
+      pub unary-made : checkWord f w ≡ done tt → (r : ℕ) → (r ≡ unaryResult f code w (numberOf f w)) × BestHere r → (done r ≡ unaryWord f code w) × BestHere r
+      unary-made good r m = (checked-made _ _ unary-checked (sym good ∙ check-word) (m .0), m .1)
+
+  -- what holds of the word that a code makes of a good word holds of what `unary` makes
+  pub when-unary : (P : ℕ → Type 0) → (checkWord f w ≡ done tt → P (unaryResult f code w (numberOf f w))) → WhenDone (unaryWord f code w) P
+  when-unary P good = when-checked (unaryStops f code w) (unaryResult f code w (numberOf f w)) unary-checked P (λ e. good (unary-good e))
+
+  held-number : checkWord f w ≡ done tt → HeldValue f (numberOf f w .value)
+  held-number c = read-held f (checked-known f w c) w (numberOf f w) (checked-read f w c)
 
   -- Every word that codes 3 to 7 make is the best for the exact value.
   pub unary-best : WhenDone (unaryWord f code w) BestHere

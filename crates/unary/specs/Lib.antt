@@ -1,6 +1,5 @@
--- What the papers say of operations on one word, in their order.
+-- What the papers say of the unary operations, in their order.
 pub mod Floor
 pub mod Unary
-pub mod Divisor
-pub mod Quotients
+pub mod Vectors
 pub mod Steps

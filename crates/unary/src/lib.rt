@@ -1,12 +1,8 @@
-// Operations on one word: the unary operations, the greatest common divisor of its parts, and its
-// partial quotients.
-mod divisor;
-mod expansion;
+// The unary operations, on one word and at each place of a vector.
+mod each;
 mod operation;
 mod signed;
 
-pub use divisor::gcd;
-pub use expansion::quotients;
+pub use each::unary_each;
 pub use operation::is_unary;
 pub use operation::unary;
-pub use operation::unary_or_zero;

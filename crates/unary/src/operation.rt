@@ -1,15 +1,16 @@
 // The unary operations: negate, absolute value, reciprocal, floor, ceiling, mod 1, normalise.
 ghost use mathlib.Core.Path.{_≡_};
-ghost use mathlib.Core.Bool.{true};
+ghost use mathlib.Core.Bool.{true, not, _&&_};
+ghost use lib.Dec.{leb};
 ghost use Prim.Native.Nat.{_≤_, _<_, _^_};
 ghost use lib.IntN.{natAbs};
-ghost use Rattle.slash.specs.Answers.{outcome, checkOutcome, done, orZero, WhenDone};
+ghost use Rattle.slash.specs.Answers.{writtenOutcome, orZero, WhenDone};
 ghost use Rattle.slash.specs.Bits.{bit};
 ghost use Rattle.slash.specs.Formats.{known, formatOf};
-ghost use Rattle.slash.specs.Words.{BestWord, numberOf, checkWord};
+ghost use Rattle.slash.specs.Words.{BestWord, numberOf, isNan, writeNumber};
 ghost use Rattle.slash.specs.Steps.{SmallParts};
 ghost use Rattle.unary.specs.Steps.{SmallValue};
-ghost use Rattle.unary.specs.Unary.{withHighest, newSign, signTouched, whole, floorParts, ceilingParts, modParts, exactParts, exactZero, exactInfinity, exactUnary, isUnary, unaryResult, unaryStops, unaryWord};
+ghost use Rattle.unary.specs.Unary.{withHighest, newSign, signTouched, whole, floorParts, ceilingParts, modParts, exactParts, exactZero, exactInfinity, exactUnary, isUnary, unaryWord};
 use crate::signed;
 use slash::Answer;
 use slash::Checked;
@@ -17,7 +18,9 @@ use slash::Format;
 use slash::Number;
 use slash::Parts;
 use slash::Stop;
+use slash::Told;
 use slash::Value;
+use slash::Written;
 
 // The codes of the operations.
 const NEGATE: u64 = 1;
@@ -53,12 +56,14 @@ fn touch_highest(highest: u64, code: u64, w: u64) -> u64
 }
 
 // Code 1 turns the sign of a word, code 2 takes it off.
-fn touch_sign(f: Format, code: u64, w: u64) -> u64
+pub(crate) fn touch_sign(f: Format, code: u64, w: u64) -> u64
     requires { ⌜ known f ≡ true ⌝ }
     ensures { λ r. ⌜ r ≡ signTouched f code w ⌝ }
 {
-    let width = f.width();
-    touch_highest(width.or_zero() - 1, code, w)
+    let Answer::Done(width) = f.width() else {
+        return 0;
+    };
+    touch_highest(width - 1, code, w)
 }
 
 fn whole_parts(n: i64) -> Parts
@@ -167,60 +172,92 @@ pub fn is_unary(code: u64) -> bool
     (NEGATE <= code) & (code <= NORMALISE)
 }
 
-// What a code makes of a good word, in numbers that stay in registers.
-fn result_word(kind: u64, k: u64, code: u64, w: u64) -> u64
-    requires { ⌜ checkWord (formatOf kind k) w ≡ done tt ⌝ }
-    ensures written { λ r. ⌜ r ≡ unaryResult (formatOf kind k) code w (numberOf (formatOf kind k) w) ⌝ }
-    ensures best { λ r. ⌜ (3 ≤ code → BestWord (formatOf kind k) (exactUnary code (numberOf (formatOf kind k) w .value)) r) ⌝ }
+// What a code makes of the fraction n/d with the sign s, written: in plain numbers, of which the
+// first six stay in registers.
+pub(crate) fn fraction_word(
+    code: u64,
+    n: u64,
+    d: u64,
+    kind: u64,
+    k: u64,
+    s: bool,
+    marked: bool,
+) -> u64
+    requires { ⌜ SmallParts (record { negative = s; numerator = n; denominator = d }) ⌝ }
+    ensures { λ r. ⌜ r ≡ orZero (writeNumber (formatOf kind k) (record { value = Value.Fraction (exactParts code (record { negative = s; numerator = n; denominator = d })); approximate = marked })) ⌝ }
 {
     let f = Format { kind: kind, k: k };
-    let v = slash::value(f, w);
-    if (code <= ABSOLUTE) & !slash::is_nan(v) {
-        return touch_sign(f, code, w);
-    }
-    let exact = exact_value(code, v);
-    let written = slash::write(
-        f,
-        Number {
-            value: exact,
-            approximate: slash::is_approximate(f, w),
-        },
-    );
-    written.or_zero()
+    let p = Parts {
+        negative: s,
+        numerator: n,
+        denominator: d,
+    };
+    let exact = exact_parts(code, p);
+    let number = Number {
+        value: Value::Fraction(exact),
+        approximate: marked,
+    };
+    let Written::Done(word) = slash::write(f, number) else {
+        return 0;
+    };
+    word
 }
 
-// What stops a call: its format, its code or its word.
-fn stops(f: Format, code: u64, w: u64) -> Checked
-    ensures { λ r. ⌜ checkOutcome r ≡ unaryStops f code w ⌝ }
+// What a code makes of a value that is no fraction, which few words are.
+pub(crate) fn special_word(f: Format, code: u64, v: Value, marked: bool) -> u64
+    requires { ⌜ SmallValue v ⌝ }
+    ensures { λ r. ⌜ r ≡ orZero (writeNumber f (record { value = exactUnary code v; approximate = marked })) ⌝ }
 {
-    if !f.is_known() {
-        return Checked::Stopped(Stop::plain(Stop::FORMAT));
-    }
-    if !is_unary(code) {
-        return Checked::Stopped(Stop::plain(Stop::CODE));
-    }
-    slash::check(f, w)
+    let exact = exact_value(code, v);
+    let number = Number {
+        value: exact,
+        approximate: marked,
+    };
+    let Written::Done(word) = slash::write(f, number) else {
+        return 0;
+    };
+    word
+}
+
+// Whether a code touches only the sign of a value.
+pub(crate) fn is_sign_touch(code: u64, v: Value) -> bool
+    ensures { λ r. ⌜ r ≡ (leb code 2 && not (isNan v)) ⌝ }
+{
+    (code <= ABSOLUTE) & !slash::is_nan(v)
 }
 
 // Code 1 negates w, 2 takes its absolute value, 3 its reciprocal, 4 its floor, 5 its ceiling, 6 is
 // mod 1, 7 normalises.
-pub fn unary(f: Format, code: u64, w: u64) -> Answer
-    ensures written { λ r. ⌜ outcome r ≡ unaryWord f code w ⌝ }
-    ensures best { λ r. ⌜ (3 ≤ code → WhenDone (outcome r) (λ v. BestWord f (exactUnary code (numberOf f w .value)) v)) ⌝ }
+pub fn unary(f: Format, code: u64, w: u64) -> Written
+    ensures written { λ r. ⌜ writtenOutcome r ≡ unaryWord f code w ⌝ }
+    ensures best { λ r. ⌜ (3 ≤ code → WhenDone (writtenOutcome r) (λ v. BestWord f (exactUnary code (numberOf f w .value)) v)) ⌝ }
 {
-    match stops(f, code, w) {
-        Checked::Stopped(s) => Answer::Stopped(s),
-        Checked::Good => Answer::Done(result_word(f.kind, f.k, code, w)),
+    if let Told::Stopped(s) = f.check() {
+        return Written::Stopped(s);
     }
-}
-
-// The word of `unary`, or 0 where it stops: for a caller that has checked its words.
-pub fn unary_or_zero(f: Format, code: u64, w: u64) -> u64
-    ensures written { λ r. ⌜ r ≡ orZero (unaryWord f code w) ⌝ }
-    ensures best { λ r. ⌜ WhenDone (unaryWord f code w) (λ _. 3 ≤ code → BestWord f (exactUnary code (numberOf f w .value)) r) ⌝ }
-{
-    match stops(f, code, w) {
-        Checked::Stopped(_) => 0,
-        Checked::Good => result_word(f.kind, f.k, code, w),
+    if !is_unary(code) {
+        return Written::Stopped(Stop::plain(Stop::CODE));
+    }
+    match slash::check(f, w) {
+        Checked::Stopped(s) => Written::Stopped(s),
+        Checked::Good(x) => {
+            let v = x.value();
+            if is_sign_touch(code, v) {
+                return Written::Done(touch_sign(f, code, w));
+            }
+            let marked = x.is_approximate();
+            let Value::Fraction(p) = v else {
+                return Written::Done(special_word(f, code, v, marked));
+            };
+            Written::Done(fraction_word(
+                code,
+                p.numerator,
+                p.denominator,
+                f.kind,
+                f.k,
+                p.negative,
+                marked,
+            ))
+        }
     }
 }

@@ -7,14 +7,14 @@ use native.Mathlib.Nat.{not-suc-le-zero, le-of-suc-le-suc}
 use native.Mathlib.Numerals.{add-one}
 use lib.ListN.{length, take, drop, set, getD, drop-of-length-le}
 use lib.Seq.{drop-cons, take-suc-set, take-all}
-use Rattle.slash.specs.Answers.{Outcome, stop, done, _then_, orZero, WhenDone}
-use Rattle.slash.proofs.AnswerLaws.{plain-stop, no-stop}
+use Rattle.slash.specs.Answers.{Outcome, stop, done, _then_, orZero, WhenDone, toldOutcome}
+use Rattle.slash.proofs.AnswerLaws.{no-stop}
 use Rattle.slash.specs.declared.answer.Stop.{Stop}
-use Rattle.vectors.specs.Each.{atPlace, each, vectorAfter, told, storedOutcome, EachPlace}
+use Rattle.vectors.specs.Each.{atPlace, each, vectorAfter, told, EachPlace}
 use Rattle.vectors.specs.Vectors.{operands, places}
-use Rattle.vectors.specs.Steps.{checks}
-use Rattle.vectors.specs.declared.stored.Stored.{Stored}
-use Rattle.vectors.specs.declared.stored.Stored.the-variants as Stored
+use Rattle.vectors.specs.Checks.{checks}
+use Rattle.slash.specs.declared.answer.Told.{Told}
+use Rattle.slash.specs.declared.answer.Told.the-variants as Told
 
 -- ---- the operands at place i and after
 
@@ -124,32 +124,29 @@ module _ {A : Type 0} where
               let r₁ : EachPlace P ys ws = subst (λ (p : Outcome (List ℕ)). WhenDone p (λ vs. EachPlace P ys vs)) d r in
               rw (e, d) (b₁, r₁)
 
-      module _ (oe : each op 0 xs ≡ o) (res : Stored) (re : storedOutcome res ≡ checks check 0 xs) where
-        pub each-stopped : (s : Stop) → res ≡ Stored.Stopped s
+      module _ (oe : each op 0 xs ≡ o) (res : Told) (re : toldOutcome res ≡ checks check 0 xs) where
+        pub each-stopped : (s : Stop) → res ≡ Told.Stopped s
             → (stop (s .number) (s .place) ≡ told o) × ((old ≡ vectorAfter o old) × Unit {0})
         unfolding told vectorAfter
         each-stopped s e =
-            let t : stop (s .number) (s .place) ≡ told o = sym (ap storedOutcome e) ∙ re ∙ sym (told-each 0 xs) ∙ ap told oe in
+            let t : stop (s .number) (s .place) ≡ told o = sym (ap toldOutcome e) ∙ re ∙ sym (told-each 0 xs) ∙ ap told oe in
             go o t
           where
             go : (p : Outcome (List ℕ)) → stop (s .number) (s .place) ≡ told p → (stop (s .number) (s .place) ≡ told p) × ((old ≡ vectorAfter p old) × Unit {0})
             go (stop n p) t = (t, (refl, tt))
             go (done ws) t = absurd (no-stop t)
 
-        pub each-done : res ≡ Stored.Done → (new : List ℕ) → new ≡ map (λ x. orZero (op x)) xs
+        pub each-done : res ≡ Told.Done → (new : List ℕ) → new ≡ map (λ x. orZero (op x)) xs
             → (done tt ≡ told o) × ((new ≡ vectorAfter o old) × EachPlace P xs new)
         unfolding told vectorAfter
         each-done e new ne =
-            let c : checks check 0 xs ≡ done tt = sym re ∙ ap storedOutcome e in
+            let c : checks check 0 xs ≡ done tt = sym re ∙ ap toldOutcome e in
             let w : each op 0 xs ≡ done new = each-words 0 xs c ∙ ap done (sym ne) in
             let d : o ≡ done new = sym oe ∙ w in
             let b : EachPlace P xs new = subst (λ (p : Outcome (List ℕ)). WhenDone p (λ ws. EachPlace P xs ws)) w (each-best 0 xs) in
             (rw d refl, (rw d refl, b))
 
 -- a stop before the words are looked at
-pub refused : (s : Stop) (n : ℕ) (o : Outcome (List ℕ)) (old : List ℕ) → s ≡ record { number = n; place = 0 } → stop n 0 ≡ o
-    → (stop (s .number) (s .place) ≡ told o) × ((old ≡ vectorAfter o old) × Unit {0})
+pub refused : {n p : ℕ} (o : Outcome (List ℕ)) (old : List ℕ) → stop n p ≡ o → (stop n p ≡ told o) × ((old ≡ vectorAfter o old) × Unit {0})
 unfolding told vectorAfter
-refused s n o old se e =
-    let t : stop (s .number) (s .place) ≡ o = plain-stop s n se e in
-    (rw (← t) refl, (rw (← t) refl, tt))
+refused o old e = (rw (← e) refl, (rw (← e) refl, tt))

@@ -1,3 +1,3 @@
 -- The laws that the functions' proofs cite.
 pub mod EachLaws
-pub mod VectorLaws
+pub mod CheckLaws

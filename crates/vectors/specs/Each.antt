@@ -2,8 +2,6 @@
 use Prim.Native.Nat.{ℕ, suc}
 use mathlib.Core.List.{List, [], _∷_}
 use Rattle.slash.specs.Answers.{Outcome, stop, done, _then_}
-use Rattle.vectors.specs.declared.stored.Stored.{Stored}
-use Rattle.vectors.specs.declared.stored.Stored.the-variants as Stored
 
 -- A stop that names its place.
 unfoldable pub atPlace : {A : Type 0} → ℕ → Outcome A → Outcome A
@@ -27,11 +25,6 @@ vectorAfter (done words) old = words
 unfoldable pub told : {A : Type 0} → Outcome A → Outcome (Unit {0})
 told (stop number place) = stop number place
 told (done x) = done tt
-
--- The outcome that each answer stands for.
-abbrev pub storedOutcome : Stored → Outcome (Unit {0})
-storedOutcome Stored.Done = done tt
-storedOutcome (Stored.Stopped s) = stop (s .number) (s .place)
 
 -- What holds, at each place, of the operands and the word there. (The two lists are equally long.)
 unfoldable pub EachPlace : {A : Type 0} → (A → ℕ → Type 0) → List A → List ℕ → Type 0

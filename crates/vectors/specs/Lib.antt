@@ -1,4 +1,4 @@
--- What the papers say of vectors.
+-- What the papers say of vectors, whatever the operation.
 pub mod Each
 pub mod Vectors
-pub mod Steps
+pub mod Checks

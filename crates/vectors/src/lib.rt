@@ -1,10 +1,6 @@
-// Vector forms: a binary operation, a unary one or a conversion at each place of equally long lent
-// vectors. All words are checked before any store.
+// What the vector forms of the operations share: the check of all words before any store. (An
+// operation at each place is a definition, `each`.)
 mod check;
-mod each;
-mod stored;
 
-pub use each::binary_each;
-pub use each::convert_each;
-pub use each::unary_each;
-pub use stored::Stored;
+pub use check::check_pairs;
+pub use check::check_words;

@@ -1,9 +1,9 @@
 //! Calls of the archive beside those of the implementation from the papers, and what differed.
 
+use crate::counts::Counts;
 use differential::night;
 use differential::paper::{self, Answer, Stop};
 use slash::raw;
-use std::collections::BTreeMap;
 use std::fmt::Debug;
 
 /// What a lent number holds before the call.
@@ -18,18 +18,11 @@ const GUARDS: usize = 4;
 /// How many bytes after a listing are looked at where the whole rest isn't.
 const REST_SEEN: usize = 256;
 
-/// How many differences are printed.
+/// How many differences of a function are printed.
 const MOST_PRINTED: u64 = 20;
 
-#[derive(Default)]
-struct Tally {
-    cases: u64,
-    differences: u64,
-}
-
 pub struct Harness {
-    tallies: BTreeMap<&'static str, Tally>,
-    cases: u64,
+    pub counts: Counts,
     listing: Vec<u8>,
 }
 
@@ -56,34 +49,9 @@ impl Harness {
     pub fn new() -> Harness {
         let listing = vec![LENT_BYTE; GUARDS + raw::LISTING_BYTES + GUARDS];
         Harness {
-            tallies: BTreeMap::new(),
-            cases: 0,
+            counts: Counts::new(),
             listing,
         }
-    }
-
-    pub fn cases(&self) -> u64 {
-        self.cases
-    }
-
-    pub fn differences(&self) -> u64 {
-        self.tallies.values().map(|tally| tally.differences).sum()
-    }
-
-    /// Prints how many cases each function had and how many of them differed.
-    pub fn report(&self) {
-        for (name, tally) in &self.tallies {
-            println!(
-                "{name:<20} {:>12} cases {:>8} differences",
-                tally.cases, tally.differences
-            );
-        }
-        println!(
-            "{:<20} {:>12} cases {:>8} differences",
-            "all",
-            self.cases,
-            self.differences()
-        );
     }
 
     /// Counts a case, and prints its input where the archive's answer isn't the papers'.
@@ -94,14 +62,10 @@ impl Harness {
         archive: T,
         papers: T,
     ) {
-        self.cases += 1;
-        let tally = self.tallies.entry(name).or_default();
-        tally.cases += 1;
-        if archive != papers {
-            tally.differences += 1;
-            if tally.differences <= MOST_PRINTED {
-                println!("{name} {input:?}\n    archive {archive:x?}\n    papers  {papers:x?}");
-            }
+        let differs = archive != papers;
+        let differences = self.counts.add(name, differs);
+        if differs && differences <= MOST_PRINTED {
+            println!("{name} {input:?}\n    archive {archive:x?}\n    papers  {papers:x?}");
         }
     }
 

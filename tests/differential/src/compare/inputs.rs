@@ -87,10 +87,15 @@ impl Source {
         things[self.below(things.len() as u64) as usize]
     }
 
+    /// A number of at most so many bits.
+    fn of_bits(&mut self, count: u64) -> u64 {
+        self.bits().checked_shr(64 - count as u32).unwrap_or(0)
+    }
+
     /// A number of a random bit count.
     pub fn part(&mut self) -> u64 {
-        let count = self.below(65) as u32;
-        self.bits().checked_shr(64 - count).unwrap_or(0)
+        let count = self.below(65);
+        self.of_bits(count)
     }
 
     /// The kind and k of a format, one time in 64 of none.
@@ -154,7 +159,8 @@ impl Source {
         }
     }
 
-    /// A held pair, neither part 0, whose parts have random bit counts, often the largest.
+    /// A held pair, neither part 0, whose parts have random bit counts, often the largest, and one time in
+    /// four a common factor of random size: chance alone makes no large one.
     fn pair(&mut self, form: Format) -> paper::Pair {
         let k = u64::from(form.k);
         let (numerator, denominator) = match (form.kind, self.below(2)) {
@@ -173,8 +179,13 @@ impl Source {
                 )
             }
         };
-        let part = |bits: u64, count: u64| u128::from((bits >> (64 - count)).max(1));
-        (part(self.bits(), numerator), part(self.bits(), denominator))
+        let common = match self.below(4) {
+            0 => self.below(numerator.min(denominator)),
+            _ => 0,
+        };
+        let factor = self.of_bits(common).max(1);
+        let mut part = |count| u128::from(self.of_bits(count - common).max(1) * factor);
+        (part(numerator), part(denominator))
     }
 
     /// Two words, one time in four the second made from the first.

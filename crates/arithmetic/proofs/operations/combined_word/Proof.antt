@@ -1,43 +1,40 @@
 -- `arithmetic::operations::combined_word` meets its contract. Assumes nothing.
-use Rattle.arithmetic.proofs.BinaryLaws.{good-combined}
-use Rattle.arithmetic.proofs.OperandLaws.{checked-operand}
+use Rattle.arithmetic.proofs.BinaryLaws.{written-from}
+use Rattle.arithmetic.specs.Operands.{operandOf, Small}
+use Rattle.slash.proofs.AnswerLaws.{zero-stop, zero-done, written-stop, written-done}
+use Rattle.slash.specs.declared.number.Value.{Value}
+use mathlib.Core.Path.{refl, subst⁻¹}
 use borrow.Author.Needs.{needs}
 use Rattle.arithmetic.proofs.operations.combined_word.Statement.{statement}
 use Rattle.arithmetic.proofs.operations.combined_word.Tie as tie
 
-value-requires : tie.Need-value-requires
-value-requires c κs = search needs
+value-from-requires : tie.Need-value-from-requires
+value-from-requires c κs = search needs
 
-value-requires-2 : tie.Need-value-requires-2
-value-requires-2 c κs = search needs
+value-from-requires-2 : tie.Need-value-from-requires-2
+value-from-requires-2 c κs = search needs
 
 exact-value-requires : tie.Need-exact-value-requires
-exact-value-requires c κs = (checked-operand _ _ (c .before .before .pre .0) _ (c .before .value .ensures), checked-operand _ _ (c .before .before .pre .1) _ (c .value2 .ensures))
-
-is-approximate-requires : tie.Need-is-approximate-requires
-is-approximate-requires c κs = search needs
-
-is-approximate-requires-2 : tie.Need-is-approximate-requires-2
-is-approximate-requires-2 c κs = search needs
+exact-value-requires c κs = (subst⁻¹ (λ (v : Value). Small (operandOf v)) (c .before .value-from .ensures) (c .before .before .pre .0), subst⁻¹ (λ (v : Value). Small (operandOf v)) (c .value-from2 .ensures) (c .before .before .pre .1))
 
 write-requires : tie.Need-write-requires
 write-requires c κs = search needs
 
-or-zero-requires : tie.Need-or-zero-requires
-or-zero-requires c κs = search needs
+enum-known-word : tie.Need-enum-known-word
+enum-known-word c = search needs
+
+enum-told : tie.Need-enum-told
+enum-told c = search needs
 
 returns : tie.Need-returns
-returns c = good-combined _ _ _ _ (c .before .before .before .before .before .before .before .pre) _ _ _ _ _ _ _ (c .before .before .before .before .before .before .value .ensures) (c .before .before .before .before .before .value2 .ensures) (c .before .before .before .before .exact-value .ensures) (c .before .before .before .is-approximate .ensures) (c .before .before .is-approximate2 .ensures) (c .before .write .ensures .0) (c .or-zero .ensures)
+returns c =
+    written-from _ _ _ _ _ _ _ _ _ _ _ _ _ _ (c .before .before .before .before .before .value-from .ensures) (c .before .before .before .before .value-from2 .ensures) (c .before .before .before .exact-value .ensures) (c .before .before .write .ensures .0)
+    (zero-stop (written-stop refl (c .enum-told .given .1)))
+
+returns-2 : tie.Need-returns-2
+returns-2 c =
+    written-from _ _ _ _ _ _ _ _ _ _ _ _ _ _ (c .before .before .before .before .before .before .value-from .ensures) (c .before .before .before .before .before .value-from2 .ensures) (c .before .before .before .before .exact-value .ensures) (c .before .before .before .write .ensures .0)
+    (zero-done (written-done refl (c .before .word .given .1)))
 
 pub combined-word-spec : {M : Type 1} → statement M
-combined-word-spec =
-    tie.close
-    (tie.spec
-    value-requires
-    value-requires-2
-    exact-value-requires
-    is-approximate-requires
-    is-approximate-requires-2
-    write-requires
-    or-zero-requires
-    returns)
+combined-word-spec = tie.close (tie.spec value-from-requires value-from-requires-2 exact-value-requires write-requires enum-known-word enum-told returns returns-2)

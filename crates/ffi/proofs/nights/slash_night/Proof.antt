@@ -11,7 +11,7 @@ store-requires : tie.Need-store-requires
 store-requires c κs = search needs
 
 returns : tie.Need-returns
-returns c = let t = stored-as _ (c .before .before .list .result) (c .before .before .list .ensures .0) _ _ _ (c .store .ensures) in (t .0, (t .1, c .before .before .list .ensures .1))
+returns c = let t = stored-as _ _ (c .before .before .list .ensures .0) _ _ _ (c .store .ensures) in (t .0, (t .1, c .before .before .list .ensures .1))
 
 pub slash-night-spec : {M : Type 1} → statement M
 slash-night-spec = tie.close (tie.spec list-requires store-requires returns)

@@ -1,5 +1,7 @@
 -- `ffi::words::order_answer` meets its contract. Assumes nothing.
-use Rattle.ffi.proofs.StatusLaws.{order-done, order-stop}
+use Rattle.slash.specs.Answers.{done}
+use Rattle.arithmetic.specs.Comparison.{comparisonOutcome}
+use mathlib.Core.Path.{sym, ap, _∙_}
 use borrow.Author.Needs.{needs}
 use Rattle.ffi.proofs.words.order_answer.Statement.{statement}
 use Rattle.ffi.proofs.words.order_answer.Tie as tie
@@ -14,10 +16,10 @@ enum-known-c-2 : tie.Need-enum-known-c-2
 enum-known-c-2 c = search needs
 
 returns : tie.Need-returns
-returns c = order-done _ _ _ (c .before .before .c .given .1) (c .order-number .ensures)
+returns c = ap done (c .order-number .ensures) ∙ sym (ap comparisonOutcome (c .before .before .c .given .1))
 
 returns-2 : tie.Need-returns-2
-returns-2 c = order-stop _ _ (c .before .c2 .given .1)
+returns-2 c = sym (ap comparisonOutcome (c .before .c2 .given .1))
 
 pub order-answer-spec : {M : Type 1} → statement M
 order-answer-spec =

@@ -1,5 +1,5 @@
 -- `ffi::words::order_number` meets its contract. Assumes nothing.
-use Rattle.ffi.specs.Status.{orderNumber}
+use Rattle.arithmetic.specs.Comparison.{orderNumber}
 use Rattle.slash.proofs.AnswerLaws.{at-one}
 use borrow.Author.Needs.{needs}
 use mathlib.Core.Path.{refl}

@@ -7,11 +7,11 @@ use Rattle.ffi.proofs.words.slash_binary.Tie as tie
 binary-requires : tie.Need-binary-requires
 binary-requires c κs = search needs
 
-store-requires : tie.Need-store-requires
-store-requires c κs = search needs
+store-word-requires : tie.Need-store-word-requires
+store-word-requires c κs = search needs
 
 returns : tie.Need-returns
-returns c = stored-made _ (c .before .before .binary .result) _ (c .before .before .binary .ensures) _ _ _ (c .store .ensures)
+returns c = stored-made _ _ _ (c .before .before .binary .ensures) _ _ _ (c .store-word .ensures)
 
 pub slash-binary-spec : {M : Type 1} → statement M
-slash-binary-spec = tie.close (tie.spec binary-requires store-requires returns)
+slash-binary-spec = tie.close (tie.spec binary-requires store-word-requires returns)

@@ -1,5 +1,6 @@
 -- `ffi::words::slash_compare` meets its contract. Assumes nothing.
-use Rattle.ffi.proofs.StatusLaws.{stored-as, compare-as}
+use Rattle.ffi.proofs.StatusLaws.{stored-as}
+use mathlib.Core.Path.{_∙_}
 use borrow.Author.Needs.{needs}
 use Rattle.ffi.proofs.words.slash_compare.Statement.{statement}
 use Rattle.ffi.proofs.words.slash_compare.Tie as tie
@@ -14,7 +15,7 @@ store-requires : tie.Need-store-requires
 store-requires c κs = search needs
 
 returns : tie.Need-returns
-returns c = stored-as _ (c .before .before .order-answer .result) (compare-as _ _ _ (c .before .before .before .compare .result) (c .before .before .order-answer .result) (c .before .before .before .compare .ensures) (c .before .before .order-answer .ensures)) _ _ _ (c .store .ensures)
+returns c = stored-as _ _ (c .before .before .order-answer .ensures ∙ c .before .before .before .compare .ensures) _ _ _ (c .store .ensures)
 
 pub slash-compare-spec : {M : Type 1} → statement M
 slash-compare-spec =

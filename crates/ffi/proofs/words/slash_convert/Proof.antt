@@ -7,11 +7,11 @@ use Rattle.ffi.proofs.words.slash_convert.Tie as tie
 convert-requires : tie.Need-convert-requires
 convert-requires c κs = search needs
 
-store-requires : tie.Need-store-requires
-store-requires c κs = search needs
+store-word-requires : tie.Need-store-word-requires
+store-word-requires c κs = search needs
 
 returns : tie.Need-returns
-returns c = stored-made _ (c .before .before .convert .result) _ (c .before .before .convert .ensures) _ _ _ (c .store .ensures)
+returns c = stored-made _ _ _ (c .before .before .convert .ensures) _ _ _ (c .store-word .ensures)
 
 pub slash-convert-spec : {M : Type 1} → statement M
-slash-convert-spec = tie.close (tie.spec convert-requires store-requires returns)
+slash-convert-spec = tie.close (tie.spec convert-requires store-word-requires returns)

@@ -11,7 +11,7 @@ store-requires : tie.Need-store-requires
 store-requires c κs = search needs
 
 returns : tie.Need-returns
-returns c = stored-as _ (c .before .before .gcd .result) (c .before .before .gcd .ensures) _ _ _ (c .store .ensures)
+returns c = stored-as _ _ (c .before .before .gcd .ensures) _ _ _ (c .store .ensures)
 
 pub slash-gcd-spec : {M : Type 1} → statement M
 slash-gcd-spec = tie.close (tie.spec gcd-requires store-requires returns)

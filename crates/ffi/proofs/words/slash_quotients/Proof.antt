@@ -16,7 +16,7 @@ same-length c = search needs
 returns : tie.Need-returns
 returns c =
     let q = c .before .before .before .before .quotients .ensures in
-    let r = stored-as _ (c .before .before .before .before .quotients .result) (q .0) _ _ _ (c .store .ensures) in
+    let r = stored-as _ _ (q .0) _ _ _ (c .store .ensures) in
     (r .0, (q .1, r .1))
 
 pub slash-quotients-spec : {M : Type 1} → statement M

@@ -9,13 +9,13 @@ use Rattle.ffi.proofs.words.slash_unary.Tie as tie
 unary-requires : tie.Need-unary-requires
 unary-requires c κs = search needs
 
-store-requires : tie.Need-store-requires
-store-requires c κs = search needs
+store-word-requires : tie.Need-store-word-requires
+store-word-requires c κs = search needs
 
 returns : tie.Need-returns
 returns c =
     let start = c .before .before .before .args in
-    stored-best _ (c .before .before .unary .result) (c .before .before .unary .ensures .0) _ (unary-best (formatOf (start .kind) (start .k)) (start .code) (start .operand)) _ _ _ (c .store .ensures)
+    stored-best _ _ (c .before .before .unary .ensures .0) _ (unary-best (formatOf (start .kind) (start .k)) (start .code) (start .operand)) _ _ _ (c .store-word .ensures)
 
 pub slash-unary-spec : {M : Type 1} → statement M
-slash-unary-spec = tie.close (tie.spec unary-requires store-requires returns)
+slash-unary-spec = tie.close (tie.spec unary-requires store-word-requires returns)

@@ -4,11 +4,11 @@ use borrow.Author.Needs.{needs}
 use Rattle.slash.proofs.fixed.value.Statement.{statement}
 use Rattle.slash.proofs.fixed.value.Tie as tie
 
-mul-flag : tie.Need-mul-flag
-mul-flag c = search needs
-
 add-flag : tie.Need-add-flag
 add-flag c = search needs
+
+shr-flag : tie.Need-shr-flag
+shr-flag c = search needs
 
 flag-requires : tie.Need-flag-requires
 flag-requires c κs = search needs
@@ -32,8 +32,8 @@ pub value-spec : {M : Type 1} → statement M
 value-spec =
     tie.close
     (tie.spec
-    mul-flag
     add-flag
+    shr-flag
     flag-requires
     add-field
     field-requires

@@ -2,12 +2,11 @@
 use Rattle.text.proofs.ColumnLaws.{word-shares, shown-parts, shown-percentage}
 use Rattle.text.proofs.NumberLaws.{stored-length, chain, room-rest, room-first, room-as, stored-as}
 use mathlib.Core.Path.{refl, sym}
-use borrow.Author.Needs.{needs}
 use Rattle.text.proofs.columns.put_shares.Statement.{statement}
 use Rattle.text.proofs.columns.put_shares.Tie as tie
 
 word-fraction-requires : tie.Need-word-fraction-requires
-word-fraction-requires c κs = search needs
+word-fraction-requires c κs = c .before .pre .0 .unsigned
 
 put-fraction-requires : tie.Need-put-fraction-requires
 put-fraction-requires c κs =

@@ -1,5 +1,5 @@
 -- `unary::operation::touch_sign` meets its contract. Assumes nothing.
-use Rattle.unary.proofs.UnaryLaws.{width-word, width-some, touch-done}
+use Rattle.unary.proofs.UnaryLaws.{width-no-stop, width-word, width-some, touch-done}
 use Rattle.unary.specs.Unary.{signBit}
 use mathlib.Core.Path.{refl}
 use native.Mathlib.Omega.{arith}
@@ -10,22 +10,26 @@ use Rattle.unary.proofs.operation.touch_sign.Tie as tie
 width-requires : tie.Need-width-requires
 width-requires c κs = search needs
 
-or-zero-requires : tie.Need-or-zero-requires
-or-zero-requires c κs = search needs
+enum-known-width : tie.Need-enum-known-width
+enum-known-width c = search needs
 
-sub-touch-highest : tie.Need-sub-touch-highest
-sub-touch-highest c = omega (arith, width-some _ (c .before .before .pre) _ (c .before .width .ensures) _ (c .or-zero .ensures))
-
-touch-highest-requires : tie.Need-touch-highest-requires
-touch-highest-requires c κs = omega (arith, width-some _ (c .before .before .pre) _ (c .before .width .ensures) _ (c .or-zero .ensures))
+enum-told : tie.Need-enum-told
+enum-told c = search needs
 
 returns : tie.Need-returns
+returns c = absurd (width-no-stop _ (c .before .before .before .pre) (c .before .before .width .ensures) (c .enum-told .given .1))
+
+sub-touch-highest : tie.Need-sub-touch-highest
+sub-touch-highest c = omega (arith, width-some _ (c .before .before .before .before .pre) (c .before .before .before .width .ensures) (c .before .width2 .given .1))
+
+touch-highest-requires : tie.Need-touch-highest-requires
+touch-highest-requires c κs = omega (arith, width-some _ (c .before .before .before .before .pre) (c .before .before .before .width .ensures) (c .before .width2 .given .1))
+
+returns-2 : tie.Need-returns-2
 unfolding signBit
-returns c =
-    let told = width-word _ (c .before .before .before .pre) _ (c .before .before .width .ensures) _ (c .before .or-zero .ensures) in
+returns-2 c =
+    let told = width-word _ (c .before .before .before .before .before .pre) (c .before .before .before .before .width .ensures) (c .before .before .width2 .given .1) in
     touch-done _ _ _ _ _ (c .touch-highest .ensures) (rw told refl)
 
 pub touch-sign-spec : {M : Type 1} → statement M
-touch-sign-spec =
-    tie.close
-    (tie.spec width-requires or-zero-requires sub-touch-highest touch-highest-requires returns)
+touch-sign-spec = tie.close (tie.spec width-requires enum-known-width enum-told returns sub-touch-highest touch-highest-requires returns-2)

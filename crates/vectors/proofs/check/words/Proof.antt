@@ -1,12 +1,13 @@
 -- `vectors::check::words` meets its contract. Assumes nothing.
 use Rattle.vectors.proofs.EachLaws.{word-at, check-next, check-stop, check-end}
-use Rattle.slash.proofs.AnswerLaws.{told-stop, told-good}
+use Rattle.slash.proofs.WordLaws.{check-good}
+use Rattle.slash.proofs.WordLaws.{check-stop as word-stop}
 use Rattle.slash.specs.Words.{checkWord}
-use Rattle.vectors.specs.Each.{storedOutcome}
-use Rattle.vectors.specs.Steps.{checks}
+use Rattle.slash.specs.Answers.{toldOutcome}
+use Rattle.vectors.specs.Checks.{checks}
 use borrow.Author.Needs.{needs}
 use native.Mathlib.Omega.{arith}
-use mathlib.Core.Path.{_≡_, refl, ap, _∙_}
+use mathlib.Core.Path.{_≡_, refl, sym, ap, _∙_}
 use Prim.Native.Nat.{_≤_, _-_}
 use lib.ListN.{length, drop}
 use Rattle.vectors.proofs.check.words.Statement.{statement}
@@ -39,8 +40,8 @@ at-place-requires c κs = search needs
 returns : tie.Need-returns Inv-loop μ-loop
 returns c =
     let at = c .before .before .before .before .before .before .before .loop in
-    ap storedOutcome (c .at-place .ensures)
-    ∙ check-stop (checkWord _) _ _ _ (word-at _ _ (c .before .before .before .before .before .before .loop-test .taken)) (told-stop (c .before .before .before .before .check .ensures) (c .before .before .s .given .1))
+    ap toldOutcome (c .at-place .ensures)
+    ∙ check-stop (checkWord _) _ _ _ (word-at _ _ (c .before .before .before .before .before .before .loop-test .taken)) (word-stop _ _ (c .before .before .before .before .check .ensures) (c .before .before .s .given .1))
     ∙ at .inv .1
 
 enum-told : tie.Need-enum-told Inv-loop μ-loop
@@ -55,7 +56,7 @@ loop-less c = search needs
 loop-again : tie.Need-loop-again Inv-loop μ-loop
 loop-again c =
     let at = c .before .before .before .before .before .loop in
-    (omega arith, check-next (checkWord _) _ _ _ (word-at _ _ (c .before .before .before .before .loop-test .taken)) (told-good (c .before .before .check .ensures) (c .enum-told .given .1)) ∙ at .inv .1)
+    (omega arith, check-next (checkWord _) _ _ _ (word-at _ _ (c .before .before .before .before .loop-test .taken)) (sym (check-good _ _ (c .before .before .check .ensures) (c .enum-told .given .1))) ∙ at .inv .1)
 
 returns-2 : tie.Need-returns-2 Inv-loop μ-loop
 returns-2 c = check-end (checkWord _) _ _ (c .loop-test .left) ∙ c .before .loop .inv .1

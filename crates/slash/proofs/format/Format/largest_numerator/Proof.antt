@@ -1,29 +1,29 @@
 -- `slash::format::Format::largest_numerator` meets its contract. Assumes nothing.
-use Rattle.slash.proofs.AnswerLaws.{plain-stop}
-use Rattle.slash.proofs.FormatLaws.{of-known, of-unknown}
+use Rattle.slash.proofs.AnswerLaws.{told-stop}
+use Rattle.slash.proofs.FormatLaws.{told-known, of-known, of-refused}
 use Rattle.slash.specs.Answers.{done}
-use mathlib.Core.Path.{sym, ap, _∙_}
+use mathlib.Core.Path.{ap, _∙_}
 use borrow.Author.Needs.{needs}
 use Rattle.slash.proofs.format.Format.largest_numerator.Statement.{statement}
 use Rattle.slash.proofs.format.Format.largest_numerator.Tie as tie
 
-is-known-requires : tie.Need-is-known-requires
-is-known-requires c κs = search needs
+check-requires : tie.Need-check-requires
+check-requires c κs = search needs
+
+enum-known-s : tie.Need-enum-known-s
+enum-known-s c = search needs
+
+enum-told : tie.Need-enum-told
+enum-told c = search needs
 
 largest-part-requires : tie.Need-largest-part-requires
-largest-part-requires c κs = sym (c .before .is-known .ensures) ∙ c .if1 .taken
-
-plain-requires : tie.Need-plain-requires
-plain-requires c κs = search needs
+largest-part-requires c κs = told-known _ (c .before .before .check .ensures) (c .enum-told .given .1)
 
 returns : tie.Need-returns
-returns c =
-    ap done (c .largest-part .ensures) ∙ of-known _ _ (sym (c .before .before .is-known .ensures) ∙ c .before .if1 .taken)
+returns c = of-refused _ _ (told-stop (c .before .before .before .check .ensures) (c .before .s .given .1))
 
 returns-2 : tie.Need-returns-2
-returns-2 c =
-    plain-stop _ 1 (c .plain .ensures) (of-unknown _ _ (sym (c .before .before .is-known .ensures) ∙ c .before .if1 .left))
+returns-2 c = ap done (c .largest-part .ensures) ∙ of-known _ _ (told-known _ (c .before .before .before .check .ensures) (c .before .enum-told .given .1))
 
 pub largest-numerator-spec : {M : Type 1} → statement M
-largest-numerator-spec =
-    tie.close (tie.spec is-known-requires largest-part-requires plain-requires returns returns-2)
+largest-numerator-spec = tie.close (tie.spec check-requires enum-known-s enum-told largest-part-requires returns returns-2)

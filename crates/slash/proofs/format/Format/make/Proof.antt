@@ -1,23 +1,24 @@
 -- `slash::format::Format::make` meets its contract. Assumes nothing.
-use Rattle.slash.proofs.AnswerLaws.{plain-stop}
-use Rattle.slash.proofs.FormatLaws.{make-known, make-unknown}
-use mathlib.Core.Path.{sym, _∙_}
+use Rattle.slash.proofs.AnswerLaws.{told-stop}
+use Rattle.slash.proofs.FormatLaws.{told-known, make-known, make-refused}
 use borrow.Author.Needs.{needs}
 use Rattle.slash.proofs.format.Format.make.Statement.{statement}
 use Rattle.slash.proofs.format.Format.make.Tie as tie
 
-is-known-requires : tie.Need-is-known-requires
-is-known-requires c κs = search needs
+check-requires : tie.Need-check-requires
+check-requires c κs = search needs
 
-plain-requires : tie.Need-plain-requires
-plain-requires c κs = search needs
+enum-known-s : tie.Need-enum-known-s
+enum-known-s c = search needs
+
+enum-told : tie.Need-enum-told
+enum-told c = search needs
 
 returns : tie.Need-returns
-returns c = make-known _ _ (sym (c .before .is-known .ensures) ∙ c .if1 .taken)
+returns c = make-refused _ _ (told-stop (c .before .before .before .check .ensures) (c .before .s .given .1))
 
 returns-2 : tie.Need-returns-2
-returns-2 c =
-    plain-stop _ 1 (c .plain .ensures) (make-unknown _ _ (sym (c .before .before .is-known .ensures) ∙ c .before .if1 .left))
+returns-2 c = make-known _ _ (told-known _ (c .before .before .check .ensures) (c .enum-told .given .1))
 
 pub make-spec : {M : Type 1} → statement M
-make-spec = tie.close (tie.spec is-known-requires plain-requires returns returns-2)
+make-spec = tie.close (tie.spec check-requires enum-known-s enum-told returns returns-2)

@@ -1,0 +1,83 @@
+-- `unary::each::store_unary` meets its contract. Assumes nothing.
+use Rattle.vectors.proofs.EachLaws.{word-at, store-next, store-end}
+use Rattle.slash.specs.Answers.{orZero}
+use Rattle.unary.specs.Unary.{unaryWord}
+use borrow.Author.Needs.{needs}
+use native.Mathlib.Omega.{arith}
+use mathlib.Core.Path.{_≡_, refl, sym, _∙_}
+use mathlib.Core.List.{_++_, map}
+use Prim.Native.Nat.{ℕ, _≤_, _-_}
+use lib.ListN.{length, take, drop, length-set}
+use Rattle.unary.proofs.each.store_unary.Statement.{statement}
+use Rattle.unary.proofs.each.store_unary.Tie as tie
+
+abbrev Inv-loop : tie.InvT-loop
+Inv-loop f code operand out₀ i₀ out i = (i ≤ length operand) × (length out ≡ length out₀) × (take i out ++ map (λ x. orZero (unaryWord f code x)) (drop i operand) ≡ map (λ x. orZero (unaryWord f code x)) operand)
+
+abbrev μ-loop : tie.MeasureT-loop
+μ-loop f code operand out₀ i₀ out i = length operand - i
+
+loop-holds : tie.Need-loop-holds Inv-loop μ-loop
+loop-holds c = (omega arith, refl, refl)
+
+mul-unary-at : tie.Need-mul-unary-at Inv-loop μ-loop
+mul-unary-at c = search needs
+
+shared-slice-read-unary-at : tie.Need-shared-slice-read-unary-at Inv-loop μ-loop
+shared-slice-read-unary-at c = search needs
+
+unary-at-requires : tie.Need-unary-at-requires Inv-loop μ-loop
+unary-at-requires c κs =
+    let pre = c .before .before .before .before .before .pre in
+    (pre .0, pre .1)
+
+mul-out : tie.Need-mul-out Inv-loop μ-loop
+mul-out c = search needs
+
+slice-write-out : tie.Need-slice-write-out Inv-loop μ-loop
+slice-write-out c = search needs
+
+add-i : tie.Need-add-i Inv-loop μ-loop
+add-i c = search needs
+
+loop-less : tie.Need-loop-less Inv-loop μ-loop
+loop-less c = search needs
+
+loop-again : tie.Need-loop-again Inv-loop μ-loop
+loop-again c =
+    let start = c .before .before .before .before .before .before in
+    let at = c .before .before .before .loop in
+    let below = c .before .before .loop-test .taken in (
+      omega arith,
+      simp length-set (at .inv .1),
+      store-next (λ (x : ℕ). orZero (unaryWord (start .args .f) (start .args .code) x)) (start .args .operand .now) (at .out) (at .i) _ _ (word-at (start .args .operand .now) (at .i) below)
+          (omega (arith, below, start .pre .2, at .inv .1)) (c .unary-at .ensures)
+          ∙ at .inv .2,
+    )
+
+same-length : tie.Need-same-length Inv-loop μ-loop
+same-length c = c .before .loop .inv .1
+
+returns : tie.Need-returns Inv-loop μ-loop
+returns c =
+    let start = c .before .before .before .before in
+    let at = c .before .loop in
+    sym (store-end (λ (x : ℕ). orZero (unaryWord (start .args .f) (start .args .code) x)) (start .args .operand .now) (at .out) (at .i) (c .loop-test .left) (omega (arith, c .loop-test .left, start .pre .2, at .inv .1))) ∙ at .inv .2
+
+pub store-unary-spec : {M : Type 1} → statement M
+store-unary-spec =
+    tie.close
+    (tie.spec
+    Inv-loop
+    μ-loop
+    loop-holds
+    mul-unary-at
+    shared-slice-read-unary-at
+    unary-at-requires
+    mul-out
+    slice-write-out
+    add-i
+    loop-less
+    loop-again
+    same-length
+    returns)
