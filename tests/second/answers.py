@@ -8,19 +8,23 @@ import vectors
 
 
 def answer_format(kind, k):
-    """f: the format's width and largest parts."""
-    form = slash.make_format(kind, k)
-    return "%d %d %d" % (
-        slash.width(form),
-        slash.largest_numerator(form),
-        slash.largest_denominator(form),
-    )
+    """f: what the check of the format tells, then its width and largest parts.
+
+    Where there is no such format, both its check and its making stop.
+    """
+    checked = told_text(slash.make_format, kind, k)
+    if checked != "done":
+        return "%s %s" % (checked, checked)
+    form = slash.Format(kind, k)
+    parts = slash.largest_numerator(form), slash.largest_denominator(form)
+    return "%s %d %d %d" % (checked, slash.width(form), *parts)
 
 
 def answer_read(kind, k, word):
-    """r: the value of a word."""
-    value = slash.read_word(slash.make_format(kind, k), word)
-    return value_text(value)
+    """r: the value of a word, and its fields."""
+    form = slash.make_format(kind, k)
+    value = slash.read_word(form, word)
+    return " ".join([value_text(value), *map(str, slash.fields_of(form, word))])
 
 
 def value_text(value):
@@ -46,17 +50,7 @@ def answer_write(kind, k, value_class, sign, n, d, mark):
 def answer_round(kind, k, n, d):
     """n: the pair that a ratio is rounded to, and its mark."""
     pair, mark = slash.rounded(slash.make_format(kind, k), n, d)
-    return "%s %d" % (pair_text(pair), mark)
-
-
-def answer_convergents(n, d):
-    """c: the convergents of a ratio."""
-    return " ".join(map(pair_text, slash.convergents(n, d)))
-
-
-def pair_text(pair):
-    """A pair as numerator, slash, denominator."""
-    return "%d/%d" % pair
+    return "%d/%d %d" % (*pair, mark)
 
 
 # Operations on two words.
@@ -177,24 +171,31 @@ def answer_quotients(kind, k, length, word):
 
 
 # Vectors. The words come after all lengths: the operands', then the lent result's.
+# First the operands alone are checked.
 
 
 def answer_binary_vector(kind, k, code, left_length, right_length, out_length, *words):
     """x: a binary code on two vectors."""
     left, right, out = parted(words, left_length, right_length, out_length)
-    return vector_text(out, vectors.binary_each, kind, k, code, left, right)
+    checked = told_text(vectors.check_operands, kind, k, left, right)
+    told = told_text(vectors.binary_each, kind, k, code, left, right, out)
+    return vector_text(checked, told, out)
 
 
 def answer_unary_vector(kind, k, code, length, out_length, *words):
     """y: a unary code on a vector."""
     operand, out = parted(words, length, out_length)
-    return vector_text(out, vectors.unary_each, kind, k, code, operand)
+    checked = told_text(vectors.check_operands, kind, k, operand)
+    told = told_text(vectors.unary_each, kind, k, code, operand, out)
+    return vector_text(checked, told, out)
 
 
 def answer_convert_vector(kind, k, to_kind, to_k, length, out_length, *words):
     """z: a conversion of a vector."""
     operand, out = parted(words, length, out_length)
-    return vector_text(out, vectors.convert_each, kind, k, to_kind, to_k, operand)
+    checked = told_text(vectors.check_operands, kind, k, operand)
+    told = told_text(vectors.convert_each, kind, k, to_kind, to_k, operand, out)
+    return vector_text(checked, told, out)
 
 
 def parted(words, *lengths):
@@ -204,14 +205,9 @@ def parted(words, *lengths):
     return [[next(rest) for _ in range(length)] for length in lengths]
 
 
-def vector_text(out, operation, *arguments):
-    """Whether the operation was done or stopped, and the lent result after it."""
-    try:
-        operation(*arguments, out)
-        first = "done"
-    except slash.Stop as stop:
-        first = stop_text(stop)
-    return " ".join([first, *("%x" % word for word in out)])
+def vector_text(checked, told, out):
+    """What the check and the operation told, and the lent result after both."""
+    return " ".join([checked, told, *("%x" % word for word in out)])
 
 
 # The dispatcher.
@@ -240,7 +236,6 @@ ANSWERS = {
     "r": answer_read,
     "w": answer_write,
     "n": answer_round,
-    "c": answer_convergents,
     "b": answer_binary,
     "B": answer_binary_each,
     "o": answer_compare,
@@ -256,6 +251,15 @@ ANSWERS = {
     "y": answer_unary_vector,
     "z": answer_convert_vector,
 }
+
+
+def told_text(call, *arguments):
+    """Whether a call was done or stopped."""
+    try:
+        call(*arguments)
+        return "done"
+    except slash.Stop as stop:
+        return stop_text(stop)
 
 
 def stop_text(stop):

@@ -68,65 +68,7 @@ def edges():
         yield request("r", FIXED, 15, word)
 
 
-# 2. The source's examples.
-
-
-def source_convergents():
-    """004's lists of convergents, and lists of every length around them."""
-    for n, d in ((277, 642), (11612, 30193), (355, 113), (320, 277), (84, 109)):
-        yield request("c", n, d)
-        yield request("c", d, n)
-    for n in range(13):
-        for d in range(1, 13):
-            yield request("c", n, d)
-    # The longest list, the largest quotients, and what lies between.
-    low, high = FIBONACCI
-    for n, d in ((low, high), (high, low), (LARGEST, 1), (1, LARGEST)):
-        yield request("c", n, d)
-    for n, d in ((0, LARGEST), (LARGEST, LARGEST), (LARGEST, LARGEST - 1)):
-        yield request("c", n, d)
-    rng = random.Random(2)
-    for _ in range(60):
-        n, d = random_part_of_any_size(rng), random_part_of_any_size(rng)
-        yield request("c", n, d)
-
-
-def source_roundings():
-    """004's ratios in every format; 277/642 gives 22/51 and the rest of Table 1."""
-    for form in slash.all_formats():
-        for n, d in ((277, 642), (11612, 30193), (355, 113)):
-            yield request("n", *form, n, d)
-            yield request("w", *form, FRACTION, 0, n, d, 0)
-        yield request("n", *form, 192, 445)
-    # The entries of 004's determinant, in the 20-bit format and both of 32 bits.
-    entries = ((10, 13), (20, 17), (1, 13), (11, 19), (7, 11), (77, 95))
-    entries += ((69, 91), (4, 17), (56, 65), (5, 13))
-    for form in (Format(FIXED, 9), Format(FIXED, 15), Format(FLOATING, 26)):
-        for n, d in entries:
-            yield request("n", *form, n, d)
-
-
-def source_words():
-    """004's 20-bit example and 355/113, each sign and mark, written and read back."""
-    examples = ((Format(FIXED, 9), 277, 642), (Format(FLOATING, 26), 355, 113))
-    for form, n, d in examples:
-        for sign in (0, 1):
-            for mark in (0, 1):
-                value = slash.Value(FRACTION, sign, n, d, mark)
-                yield request("w", *form, *value)
-                yield request("r", *form, slash.write_value(form, value))
-
-
-def source_integers():
-    """004's integer compatibility: whole numbers in the 32-bit formats."""
-    for form in (Format(FIXED, 15), Format(FLOATING, 26)):
-        largest = slash.largest_numerator(form)
-        for n in (0, 1, 2, 3, 1000, largest - 1, largest, largest + 1):
-            for sign in (0, 1):
-                yield request("w", *form, FRACTION, sign, n, 1, 0)
-
-
-# 3. Every format.
+# 2. Every format.
 
 
 def formats():
@@ -191,7 +133,7 @@ def undefined_positions_beyond_the_width():
                 yield request("r", FLOATING, k, word)
 
 
-# 4. Every word.
+# 3. Every word.
 
 
 def every_word_of_the_smallest_formats():
@@ -203,7 +145,7 @@ def every_word_of_the_smallest_formats():
             yield request("r", *form, word)
 
 
-# 5. Writing.
+# 4. Writing.
 
 
 def special_values():
@@ -271,7 +213,7 @@ def random_fractions():
             yield request("r", *form, slash.write_value(form, value))
 
 
-# 6. Rounding.
+# 5. Rounding.
 
 
 def every_small_ratio():
@@ -347,10 +289,6 @@ def held_values():
 GROUPS = [
     unknown_formats,
     edges,
-    source_convergents,
-    source_roundings,
-    source_words,
-    source_integers,
     formats,
     words_of_each_format,
     fixed_words_without_a_part,

@@ -11,9 +11,11 @@ import vectors
 from answers import LENT, answer
 from cases_common import chosen, small_formats
 from cases_night import EXAMPLE, EXAMPLE_LISTING
+from checks_source import check_source
 from slash import FIXED, FRACTION, ZERO
 
-# What the papers print: document 01's Edges, with 004's convergents and widths.
+# What the papers print: document 01's Edges, with 004's roundings and widths. What
+# 004 works out in steps is in checks_source.py.
 PAPER_ANSWERS = [
     ("n 1 9 277 642", "85/197 1"),
     ("n 1 2 5 2", "2/1 1"),
@@ -25,20 +27,26 @@ PAPER_ANSWERS = [
     ("n 2 4 5 1", "5/1 0"),
     ("n 2 4 9 1", "1/0 1"),
     ("w 2 26 0 0 355 113 1", "4c0058f1"),
+    # 004 prints its slash position, 6.
+    ("r 2 26 1275091185", "+ 355/113 1 0 1 6 22769"),
     ("n 1 2 6 23", "1/3 1"),
     ("n 1 3 6 23", "1/4 1"),
     ("n 1 2 1 4", "0/1 1"),
-    ("f 1 1", "stop 1 0"),
-    ("f 2 1", "stop 1 0"),
-    ("f 1 32", "stop 1 0"),
-    ("f 1 15", "32 32767 32767"),
-    ("f 2 26", "32 33554431 33554431"),
+    ("f 1 1", "stop 1 0 stop 1 0"),
+    ("f 2 1", "stop 1 0 stop 1 0"),
+    ("f 1 32", "stop 1 0 stop 1 0"),
+    ("f 1 15", "done 32 32767 32767"),
+    ("f 2 26", "done 32 33554431 33554431"),
     ("w 1 15 0 0 277 642 0", "1150282"),
-    ("c 277 642", "1/0 0/1 1/2 3/7 19/44 22/51 85/197 277/642"),
-    (
-        "c 11612 30193",
-        "1/0 0/1 1/2 1/3 2/5 3/8 5/13 1288/3349 2581/6711 11612/30193",
-    ),
+    # 277/642 is [0,2,3,6,1,3,3]; in four digits 22/51; in 20 bits 85/197, whose
+    # parts 001010101 and 011000101 stand on both sides of the mark.
+    ("q 1 15 7 18154114", "7 0 2 3 6 1 3 3"),
+    ("n 1 6 277 642", "22/51 1"),
+    ("w 1 9 0 0 277 642 0", "%x" % 0b0_001010101_1_011000101),
+    ("r 1 9 87749", "+ 85/197 1 0 85 1 197"),
+    # 320/277 - 84/109: 5/13 in 20 bits, 11612/30193 in 32.
+    ("b 1 9 2 327957 86125", "160d"),
+    ("b 1 15 2 20971797 5505133", "2d5c75f1"),
     # 13 + 15 in hexadecimal gives 1a.
     ("b 1 3 1 19 21", "1a"),
     # Floor, ceiling and mod 1 of -2/3: -1, +0 and 1/3.
@@ -97,25 +105,26 @@ RULE_ANSWERS = [
     ("o 1 3 0 0", "unordered"),
     ("g 1 3 34", "2"),
     ("g 1 3 7", "0"),
-    # Vectors: 13 + 15 and 15 + 13 in hexadecimal, then the stops in their order.
-    ("x 1 3 1 2 2 2 19 21 21 19 7 8", "done 1a 1a"),
-    ("x 1 3 1 0 0 0", "done"),
-    ("x 3 3 0 2 1 1 256 256 256 7", "stop 1 0 7"),
-    ("x 1 3 0 2 1 1 256 256 256 7", "stop 2 0 7"),
-    ("x 1 3 0 0 0 0", "stop 2 0"),
-    ("x 1 3 1 1 1 2 256 256 7 8", "stop 3 0 7 8"),
-    ("x 1 3 1 2 2 2 1 1 1 256 7 8", "stop 4 1 7 8"),
+    # Vectors: 13 + 15 and 15 + 13 in hexadecimal, then the stops in their order. The
+    # check of the operands comes first, and stops 2 and 3 of the result not in it.
+    ("x 1 3 1 2 2 2 19 21 21 19 7 8", "done done 1a 1a"),
+    ("x 1 3 1 0 0 0", "done done"),
+    ("x 3 3 0 2 1 1 256 256 256 7", "stop 1 0 stop 1 0 7"),
+    ("x 1 3 0 2 1 1 256 256 256 7", "stop 3 0 stop 2 0 7"),
+    ("x 1 3 0 0 0 0", "done stop 2 0"),
+    ("x 1 3 1 1 1 2 256 256 7 8", "stop 4 0 stop 3 0 7 8"),
+    ("x 1 3 1 2 2 2 1 1 1 256 7 8", "stop 4 1 stop 4 1 7 8"),
     # Floating k = 3: width 6; slash position 2, words 8 to 11, is undefined.
-    ("x 2 3 1 2 2 2 8 0 64 0 7 8", "stop 5 0 7 8"),
-    ("x 2 3 1 2 2 2 0 8 64 0 7 8", "stop 4 0 7 8"),
-    ("x 2 3 1 2 2 2 0 8 0 64 7 8", "stop 5 1 7 8"),
-    ("x 2 3 1 1 1 1 72 8 7", "stop 4 0 7"),
-    ("y 1 3 4 2 2 163 16 7 8", "done 91 10"),
-    ("y 1 3 8 1 2 163 7 8", "stop 2 0 7 8"),
-    ("y 1 3 4 2 1 163 16 7", "stop 3 0 7"),
-    ("z 1 5 1 2 2 2 407 1 7 8", "done f 1"),
-    ("z 1 5 1 32 2 1 407 1 7", "stop 1 0 7"),
-    ("z 1 3 1 2 2 2 1 256 7 8", "stop 4 1 7 8"),
+    ("x 2 3 1 2 2 2 8 0 64 0 7 8", "stop 5 0 stop 5 0 7 8"),
+    ("x 2 3 1 2 2 2 0 8 64 0 7 8", "stop 4 0 stop 4 0 7 8"),
+    ("x 2 3 1 2 2 2 0 8 0 64 7 8", "stop 5 1 stop 5 1 7 8"),
+    ("x 2 3 1 1 1 1 72 8 7", "stop 4 0 stop 4 0 7"),
+    ("y 1 3 4 2 2 163 16 7 8", "done done 91 10"),
+    ("y 1 3 8 1 2 163 7 8", "done stop 2 0 7 8"),
+    ("y 1 3 4 2 1 163 16 7", "done stop 3 0 7"),
+    ("z 1 5 1 2 2 2 407 1 7 8", "done done f 1"),
+    ("z 1 5 1 32 2 1 407 1 7", "done stop 1 0 7"),
+    ("z 1 3 1 2 2 2 1 256 7 8", "stop 4 1 stop 4 1 7 8"),
 ]
 
 # Recordings and their listings, worked out by hand from document 01's rules.
@@ -137,6 +146,7 @@ NIGHT_LISTINGS = [
 def check_all():
     """Asserts everything below."""
     check_answers()
+    check_source()
     check_held_pairs()
     check_descent()
     check_demand_3()

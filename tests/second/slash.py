@@ -133,12 +133,38 @@ def read_word(form, word):
     return read_floating(form.k, word)
 
 
+def fields_of(form, word):
+    """The fields of a word, the highest first; stop 4, then stop 5."""
+    read_word(form, word)
+    if form.kind == FIXED:
+        return fixed_fields(form.k, word)
+    return floating_fields(form.k, word)
+
+
+def fixed_fields(k, word):
+    """A fixed word's sign, numerator, mark and denominator."""
+    return (
+        field(word, 2 * k + 1, 2 * k + 1),
+        field(word, 2 * k, k + 1),
+        field(word, k, k),
+        field(word, k - 1, 0),
+    )
+
+
+def floating_fields(k, word):
+    """A floating word's sign, mark, slash position e and field f."""
+    length = slash_width(k)
+    return (
+        field(word, k + length, k + length),
+        field(word, k + length - 1, k + length - 1),
+        field(word, k + length - 2, k - 1),
+        field(word, k - 2, 0),
+    )
+
+
 def read_fixed(k, word):
     """The value of a fixed word."""
-    sign = field(word, 2 * k + 1, 2 * k + 1)
-    numerator = field(word, 2 * k, k + 1)
-    mark = field(word, k, k)
-    denominator = field(word, k - 1, 0)
+    sign, numerator, mark, denominator = fixed_fields(k, word)
     if numerator != 0 and denominator != 0:
         return Value(FRACTION, sign, numerator, denominator, mark)
     if numerator == 0 and denominator % 2 == 1:
@@ -150,18 +176,14 @@ def read_fixed(k, word):
 
 def read_floating(k, word):
     """The value of a floating word; stop 5 for an undefined slash position."""
-    length = slash_width(k)
-    sign = field(word, k + length, k + length)
-    mark = field(word, k + length - 1, k + length - 1)
-    e = field(word, k + length - 2, k - 1)
-    f = field(word, k - 2, 0)
+    sign, mark, e, f = floating_fields(k, word)
     if e <= k - 2:
         numerator = f // 2**e
         denominator = f % 2**e + 2**e
         if numerator == 0:
             return Value(ZERO, sign, *ZERO_PAIR, mark)
         return Value(FRACTION, sign, numerator, denominator, mark)
-    if e < 2**length - 1:
+    if e < 2 ** slash_width(k) - 1:
         raise Stop(UNDEFINED_SLASH_POSITION)
     if f % 2 == 0:
         return Value(INFINITY, sign, *INFINITY_PAIR, mark)

@@ -39,6 +39,13 @@ def convert_each(kind, k, to_kind, to_k, operand, out):
     out[:] = [operations.converted(source, target, word) for word in operand]
 
 
+def check_operands(kind, k, *operands):
+    """Stop 1, then 3 for operands of unequal length, then the words'."""
+    form = slash.make_format(kind, k)
+    check_lengths(*operands)
+    check_words(form, *operands)
+
+
 def check_code(code, known):
     """Stop 2 for a code that isn't among the known ones."""
     if code not in known:

@@ -7,6 +7,7 @@ import answers
 import cases_binary
 import cases_files
 import cases_night
+import cases_source
 import cases_unary
 import cases_vectors
 import cases_words
@@ -14,7 +15,13 @@ import checks
 import night
 
 # The modules whose requests are written, one after the other.
-CASE_MODULES = [cases_words, cases_binary, cases_unary, cases_vectors]
+CASE_MODULES = [
+    cases_words,
+    cases_source,
+    cases_binary,
+    cases_unary,
+    cases_vectors,
+]
 
 
 def outputs():

@@ -1,4 +1,6 @@
--- Laws of comparison. Assumes nothing.
+-- Comparison. Assumes nothing.
+-- `line-order`: places on a line stand as sign and size do, +0 = -0 among them. `compare-left`, `compare-right`, `compare-both`: the stops, in
+-- their order, and the answer; the others are one for each way through the code.
 use mathlib.Core.Path.{_≡_, refl, sym, ap, _∙_, subst}
 use mathlib.Core.Bool.{Bool, true, false, _&&_, _||_, false≢true}
 use Prim.Native.Nat.{ℕ, _+_, _-_, _^_, _≤_, _<_}
@@ -7,21 +9,22 @@ use native.Mathlib.Decide.{ℕ-discrete, decLe}
 use lib.Dec.{eqb}
 use borrow.Author.Tests.{lt-ltb, le-ltb, eq-eqb, ne-eqb}
 use Rattle.slash.specs.Answers.{stop, done}
-use Rattle.slash.specs.Words.{numberIn, checkWord, readWord, isNan, partsOf}
-use Rattle.slash.proofs.WordLaws.{checked-number, checked-read}
+use Rattle.slash.specs.Reading.{numberIn, checkWord, readWord}
+use Rattle.slash.specs.Numbers.{isNan, partsOf}
+use Rattle.slash.proofs.ReadingLaws.{checked-number, checked-read}
 use Rattle.slash.proofs.AnswerLaws.{then-stop, then-done, at-both}
 use Rattle.slash.specs.declared.format.Format.{Format}
 use Rattle.slash.specs.declared.number.Parts.{Parts}
 use Rattle.slash.specs.declared.number.Value.{Value}
 use Rattle.slash.specs.declared.number.Value.the-variants.{Fraction, Zero, Infinity, NotANumber}
 use Rattle.slash.specs.declared.number.Number.{Number}
-use Rattle.arithmetic.specs.Operands.{operandOf, Small}
-use Rattle.arithmetic.specs.Steps.{onLine, isFraction}
+use Rattle.arithmetic.specs.Operands.{operandOf}
+use Rattle.arithmetic.specs.Steps.{Small, onLine, isFraction}
 use Rattle.arithmetic.specs.Comparison.{orderNumber, orderOf, signedOrder, outside, compareOf, compareValues, compareWords}
 use Rattle.arithmetic.specs.declared.operand.Operand.{Operand}
 use Rattle.arithmetic.specs.declared.operand.Operand.the-variants.{Finite}
-use Rattle.arithmetic.specs.declared.ordering.Order.{Order}
-use Rattle.arithmetic.specs.declared.ordering.Order.the-variants.{Below, Equal, Above, Unordered}
+use Rattle.arithmetic.specs.declared.comparison.Order.{Order}
+use Rattle.arithmetic.specs.declared.comparison.Order.the-variants.{Below, Equal, Above, Unordered}
 
 module _ (m n : ℕ) where
   pub order-below : m < n → Below ≡ orderOf m n

@@ -1,7 +1,8 @@
--- The laws that the functions' proofs cite.
+-- The laws that the functions' proofs cite, and what follows from the definitions.
 pub mod OperandLaws
 pub mod SizeLaws
-pub mod BinaryLaws
+pub mod OperationLaws
+pub mod RuleLaws
 pub mod ComparisonLaws
-pub mod VectorLaws
+pub mod EachLaws
 pub mod Edges

@@ -1,4 +1,6 @@
--- Laws of operands: what a word says is small. Assumes nothing.
+-- Operands. Assumes nothing.
+-- `read-small`: what a word says has parts below 2^31. `products`: so no product of two leaves 62 bits. `same-operand`: a value and its parts
+-- are the same operand.
 use mathlib.Core.Path.{_≡_, refl, sym, ap, _∙_, subst, subst⁻¹}
 use mathlib.Core.Bool.{Bool, true}
 use borrow.Author.Tests.{eq-eqb, ne-eqb}
@@ -7,17 +9,18 @@ use native.Mathlib.Omega.{arith}
 use native.Mathlib.Nat.{mul-le-mul}
 use Rattle.slash.specs.Answers.{done}
 use Rattle.slash.specs.Formats.{known}
-use Rattle.slash.specs.Words.{numberOf, numberIn, checkWord, readWord, isNan, partsOf}
-use Rattle.slash.specs.Canonical.{HeldValue}
-use Rattle.slash.proofs.WordLaws.{checked-number, checked-read}
-use Rattle.slash.proofs.Canonical.{held-small, read-known, read-held}
+use Rattle.slash.specs.Reading.{numberOf, numberIn, checkWord, readWord}
+use Rattle.slash.specs.Numbers.{isNan, partsOf}
+use Rattle.slash.specs.Steps.{HeldValue}
+use Rattle.slash.proofs.ReadingLaws.{checked-number, checked-read}
+use Rattle.slash.proofs.CanonicalLaws.{held-small, read-known, read-held}
 use Rattle.slash.specs.declared.format.Format.{Format}
 use Rattle.slash.specs.declared.number.Parts.{Parts}
 use Rattle.slash.specs.declared.number.Value.{Value}
 use Rattle.slash.specs.declared.number.Value.the-variants.{Fraction, Zero, Infinity, NotANumber}
 use Rattle.slash.specs.declared.number.Number.{Number}
-use Rattle.arithmetic.specs.Operands.{operandOf, turned, Small}
-use Rattle.arithmetic.specs.Steps.{valueFrom}
+use Rattle.arithmetic.specs.Operands.{operandOf, turned}
+use Rattle.arithmetic.specs.Steps.{Small, valueFrom}
 use Rattle.arithmetic.specs.declared.operand.Operand.{Operand}
 use Rattle.arithmetic.specs.declared.operand.Operand.the-variants.{Finite, Infinite}
 

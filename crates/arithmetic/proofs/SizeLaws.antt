@@ -1,4 +1,5 @@
 -- Demand 3's N over D is the size of the exact value that is rounded: two definitions that say one thing. Assumes nothing.
+-- `size-exact`: for every two values and each of the four codes.
 use mathlib.Core.Path.{_≡_, refl, ap, subst⁻¹}
 use mathlib.Core.Bool.{Bool, true, false, not}
 use Prim.Native.Nat.{ℕ, _*_, _≤_}
@@ -7,12 +8,13 @@ use native.Mathlib.Decide.{ℕ-discrete}
 use lib.Dec.{leb, eqb}
 use borrow.Author.Tests.{leb-true}
 use Rattle.convergents.specs.Choice.{if_then_else_}
-use Rattle.slash.specs.Words.{ExactSize, _over_, none, sizeOf, isNan, partsOf}
+use Rattle.slash.specs.Best.{ExactSize, _over_, none, sizeOf}
+use Rattle.slash.specs.Numbers.{isNan, partsOf}
 use Rattle.slash.proofs.AnswerLaws.{and-parts}
 use Rattle.slash.specs.declared.number.Value.{Value}
 use Rattle.slash.specs.declared.number.Value.the-variants.{Fraction, Zero, Infinity, NotANumber}
 use Rattle.arithmetic.specs.Operands.{operandOf, signOf, differ, turned}
-use Rattle.arithmetic.specs.Binary.{sumSize, sumParts, sumOf, productParts, timesInfinity, productOf, dividedBy, quotientOf, exactOf, exactValue, isBinary}
+use Rattle.arithmetic.specs.Operations.{sumSize, sumParts, sumOf, productParts, timesInfinity, productOf, dividedBy, quotientOf, exactOf, exactValue, isBinary}
 use Rattle.arithmetic.specs.Sizes.{isFinite, isInfinite, sizeOfSum, finiteSize, binarySize}
 use Rattle.arithmetic.specs.declared.operand.Operand.{Operand}
 use Rattle.arithmetic.specs.declared.operand.Operand.the-variants.{Finite, Infinite}

@@ -4,14 +4,15 @@ use mathlib.Core.Bool.{Bool, not, _&&_, _||_}
 use lib.Dec.{ltb, eqb}
 use Rattle.convergents.specs.Choice.{if_then_else_}
 use Rattle.slash.specs.Answers.{Outcome, stop, done, _then_}
-use Rattle.slash.specs.Words.{readWord, isNan}
+use Rattle.slash.specs.Reading.{readWord}
+use Rattle.slash.specs.Numbers.{isNan}
 use Rattle.slash.specs.declared.format.Format.{Format}
 use Rattle.slash.specs.declared.number.Value.{Value}
 use Rattle.arithmetic.specs.Operands.{operandOf, differ}
-use Rattle.arithmetic.specs.declared.ordering.Comparison.{Comparison}
-use Rattle.arithmetic.specs.declared.ordering.Comparison.the-variants as Comparison
-use Rattle.arithmetic.specs.declared.ordering.Order.{Order}
-use Rattle.arithmetic.specs.declared.ordering.Order.the-variants.{Below, Equal, Above, Unordered}
+use Rattle.arithmetic.specs.declared.comparison.Comparison.{Comparison}
+use Rattle.arithmetic.specs.declared.comparison.Comparison.the-variants as Comparison
+use Rattle.arithmetic.specs.declared.comparison.Order.{Order}
+use Rattle.arithmetic.specs.declared.comparison.Order.the-variants.{Below, Equal, Above, Unordered}
 use Rattle.arithmetic.specs.declared.operand.Operand.{Operand}
 use Rattle.arithmetic.specs.declared.operand.Operand.the-variants.{Finite, Infinite}
 

@@ -1,8 +1,10 @@
 -- What the papers say of the binary operations and comparison, in their order.
 pub mod Operands
-pub mod Binary
+pub mod Operations
 pub mod Sizes
 pub mod Comparison
-pub mod Vectors
+pub mod Each
+-- The papers' cases.
 pub mod Edges
+-- For the code and the proofs alone.
 pub mod Steps

@@ -1,7 +1,6 @@
 -- Operands: a word's value as the operations take it.
 use mathlib.Core.Bool.{Bool, false, not, Bool·beq}
-use Rattle.slash.specs.Steps.{SmallParts}
-use Rattle.slash.specs.Words.{partsOf}
+use Rattle.slash.specs.Numbers.{partsOf}
 use Rattle.slash.specs.declared.number.Value.{Value}
 use Rattle.slash.specs.declared.number.Value.the-variants.{Fraction, Zero, Infinity, NotANumber}
 use Rattle.arithmetic.specs.declared.operand.Operand.{Operand}
@@ -26,8 +25,3 @@ differ s t = not (Bool·beq s t)
 unfoldable pub turned : Operand → Operand
 turned (Finite p) = Finite (record { negative = not (p .negative); numerator = p .numerator; denominator = p .denominator })
 turned (Infinite s) = Infinite (not s)
-
--- An operand as it is read from a word. (For the code alone.)
-unfoldable pub Small : Operand → Type 0
-Small (Finite p) = SmallParts p
-Small (Infinite s) = Unit {0}

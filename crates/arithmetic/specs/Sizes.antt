@@ -4,7 +4,8 @@ use mathlib.Core.Bool.{Bool, true, false, not, _&&_, Bool·beq}
 use lib.Dec.{eqb}
 use Rattle.convergents.specs.Choice.{if_then_else_}
 use Rattle.convergents.specs.Pairs.{apart}
-use Rattle.slash.specs.Words.{ExactSize, _over_, none, partsOf}
+use Rattle.slash.specs.Best.{ExactSize, _over_, none}
+use Rattle.slash.specs.Numbers.{partsOf}
 use Rattle.slash.specs.declared.number.Parts.{Parts}
 use Rattle.slash.specs.declared.number.Value.{Value}
 use Rattle.slash.specs.declared.number.Value.the-variants.{Fraction, Zero, Infinity, NotANumber}

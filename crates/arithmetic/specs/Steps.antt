@@ -1,14 +1,21 @@
--- What private functions come to.
+-- For the code and the proofs alone: what private functions come to, and what they may take for granted.
 use Prim.Native.Nat.{ℕ, _+_, _-_, _^_}
-use mathlib.Core.Bool.{Bool, true, false}
+use mathlib.Core.Bool.{Bool, false, true}
 use lib.Dec.{eqb}
 use Rattle.convergents.specs.Choice.{if_then_else_}
-use Rattle.slash.specs.Answers.{orZero}
-use Rattle.slash.specs.declared.format.Format.{Format}
+use Rattle.slash.specs.Steps.{SmallParts, orZero}
 use Rattle.slash.specs.declared.number.Value.{Value}
 use Rattle.slash.specs.declared.number.Value.the-variants.{Fraction, Zero, Infinity, NotANumber}
-use Rattle.vectors.specs.Vectors.{Operands}
-use Rattle.arithmetic.specs.Binary.{binaryWord}
+use Rattle.slash.specs.declared.format.Format.{Format}
+use Rattle.vectors.specs.Places.{Operands}
+use Rattle.arithmetic.specs.Operations.{binaryWord}
+use Rattle.arithmetic.specs.declared.operand.Operand.{Operand}
+use Rattle.arithmetic.specs.declared.operand.Operand.the-variants.{Finite, Infinite}
+
+-- An operand as it is read from a word. (For the code alone.)
+unfoldable pub Small : Operand → Type 0
+Small (Finite p) = SmallParts p
+Small (Infinite s) = Unit {0}
 
 -- Where a number of this sign and size lies on a line that has 0 at 2^62.
 abbrev pub onLine : Bool → ℕ → ℕ

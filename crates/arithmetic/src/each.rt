@@ -3,19 +3,20 @@ ghost use mathlib.Core.Path.{_≡_};
 ghost use mathlib.Core.Bool.{true};
 ghost use mathlib.Core.List.{map};
 ghost use lib.ListN.{length};
-ghost use Rattle.slash.specs.Answers.{orZero, toldOutcome, WhenDone};
+ghost use Rattle.slash.specs.Steps.{orZero};
+ghost use Rattle.slash.specs.Answers.{completionOutcome, WhenDone};
 ghost use Rattle.slash.specs.Formats.{known};
-ghost use Rattle.vectors.specs.Each.{vectorAfter, told, EachPlace};
-ghost use Rattle.vectors.specs.Vectors.{places};
-ghost use Rattle.arithmetic.specs.Binary.{isBinary, binaryWord};
-ghost use Rattle.arithmetic.specs.Vectors.{binaryEach, BestBinary};
+ghost use Rattle.vectors.specs.Each.{vectorAfter, stopOnly, EachPlace};
+ghost use Rattle.vectors.specs.Places.{places};
+ghost use Rattle.arithmetic.specs.Operations.{isBinary, binaryWord};
+ghost use Rattle.arithmetic.specs.Each.{binaryEach, BestBinary};
 ghost use Rattle.arithmetic.specs.Steps.{binaryIn};
-use crate::operations::combined_word;
-use crate::operations::is_binary;
+use crate::operation::combined_word;
+use crate::operation::is_binary;
 use slash::Checked;
+use slash::Completion;
 use slash::Format;
 use slash::Stop;
-use slash::Told;
 
 // The word of `binary` at a place, or 0 where a word is refused.
 fn binary_at(f: Format, code: u64, left: u64, right: u64) -> u64
@@ -58,29 +59,29 @@ fn store_binary(f: Format, code: u64, left: &[u64], right: &[u64], out: &mut [u6
 }
 
 // A binary operation at each place of left and right.
-pub fn binary_each(f: Format, code: u64, left: &[u64], right: &[u64], out: &mut [u64]) -> Told
-    ensures answered { λ r. ⌜ toldOutcome r ≡ told (binaryEach f code (now (left .entry)) (now (right .entry)) (now (out .entry))) ⌝ }
+pub fn binary_each(f: Format, code: u64, left: &[u64], right: &[u64], out: &mut [u64]) -> Completion
+    ensures answered { λ r. ⌜ completionOutcome r ≡ stopOnly (binaryEach f code (now (left .entry)) (now (right .entry)) (now (out .entry))) ⌝ }
     ensures stored { λ _. ⌜ now (out .exit) ≡ vectorAfter (binaryEach f code (now (left .entry)) (now (right .entry)) (now (out .entry))) (now (out .entry)) ⌝ }
-    ensures best { λ r. ⌜ WhenDone (toldOutcome r) (λ _. EachPlace (BestBinary f code) (places (now (left .entry)) (now (right .entry))) (now (out .exit))) ⌝ }
+    ensures best { λ r. ⌜ WhenDone (completionOutcome r) (λ _. EachPlace (BestBinary f code) (places (now (left .entry)) (now (right .entry))) (now (out .exit))) ⌝ }
 {
-    if let Told::Stopped(s) = f.check() {
-        return Told::Stopped(s);
+    if let Completion::Stopped(s) = f.check() {
+        return Completion::Stopped(s);
     }
     if !is_binary(code) {
-        return Told::Stopped(Stop::plain(Stop::CODE));
+        return Completion::Stopped(Stop::plain(Stop::CODE));
     }
     if left.len() != right.len() {
-        return Told::Stopped(Stop::plain(Stop::LENGTH));
+        return Completion::Stopped(Stop::plain(Stop::LENGTH));
     }
     if left.len() != out.len() {
-        return Told::Stopped(Stop::plain(Stop::LENGTH));
+        return Completion::Stopped(Stop::plain(Stop::LENGTH));
     }
     let checked = vectors::check_pairs(f, left, right);
     match checked {
-        Told::Stopped(s) => Told::Stopped(s),
-        Told::Done => {
+        Completion::Stopped(s) => Completion::Stopped(s),
+        Completion::Done => {
             store_binary(f, code, left, right, out);
-            Told::Done
+            Completion::Done
         }
     }
 }

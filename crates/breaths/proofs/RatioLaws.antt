@@ -1,4 +1,8 @@
--- Ratios: durations, what is void, and that the word of a ratio from 0 to 1 is a fraction from 0 to 1. Assumes nothing.
+-- Durations, what is void, and ratios. Assumes nothing.
+-- `breath-best`, `night-best`, `breaths-best`: demand 3, of a breath, a night and each of some breaths. `breath-rounded`, `night-rounded`: demand
+-- 2, of a breath and a night. `breath-mark`, `night-mark`: the mark of their words. `ratio-proportion`: the word of a ratio from 0 to 1 is a
+-- fraction from 0 to 1. `span-is`, `span-leads`: a difference modulo 2^32 leads from the first tick mark to the second,
+-- and any number below 2^32 that does is it. `good-breath`: a breath that isn't void has a whole, and an in that doesn't exceed it.
 use mathlib.Core.Path.{_≡_, refl, sym, ap, _∙_, subst}
 use mathlib.Core.Bool.{Bool, true, false, _||_, true≢false}
 use mathlib.Core.List.{List, [], _∷_}
@@ -13,11 +17,14 @@ use Rattle.convergents.specs.Pairs.{Pair, pair, differs}
 use Rattle.convergents.specs.Rounding.{Limit, held, round}
 use Rattle.convergents.specs.Best.{Best}
 use Rattle.convergents.proofs.Optimal.{held-is, zero-held}
-use Rattle.convergents.proofs.Theorem.{round-best}
+use Rattle.convergents.proofs.BestLaws.{round-best}
 use Rattle.slash.specs.Answers.{Outcome, done, writtenOutcome, WhenDone}
-use Rattle.slash.specs.Bits.{bits, fields}
+use Rattle.slash.specs.Bits.{bits, wordOfFields}
 use Rattle.slash.specs.Formats.{kFits, known, holds}
-use Rattle.slash.specs.Words.{fixedValue, fixedNumber, numberOf, fixedWord, pairWord, wordFor, isOverZero, writeNumber, exactRatio, pairOf, BestFor, BestWord}
+use Rattle.slash.specs.Reading.{fixedValue, fixedNumber, numberOf}
+use Rattle.slash.specs.Writing.{fixedWord, pairWord, wordFor, isOverZero, writeNumber, exactRatio}
+use Rattle.slash.specs.Numbers.{isNan, pairOf}
+use Rattle.slash.specs.Best.{BestForRatio, BestForValue}
 use Rattle.slash.specs.declared.answer.Written.{Written}
 use Rattle.slash.specs.declared.answer.Written.the-variants as Written
 use Rattle.slash.specs.declared.answer.Stop.{Stop}
@@ -26,18 +33,26 @@ use Rattle.slash.specs.declared.number.Value.{Value}
 use Rattle.slash.proofs.AnswerLaws.{done-inj, no-stop, some-not, if-case}
 use Rattle.slash.proofs.BitLaws.{bit-lt, bit-false}
 use Rattle.slash.proofs.FormatLaws.{format-limit, fixed-parts}
-use Rattle.slash.proofs.WriteLaws.{write-done, word-best}
-use Rattle.breaths.specs.Breaths.{span, breathOf, isVoid, format, ratioWord, wordOf, breathRatio, breathWord, noneLeft, nightRatio, nightWord, fractionOf, BestRatio, BestBreaths}
-use Rattle.breaths.specs.Shown.{Shown, ShownRatio, Proper}
+use Rattle.slash.proofs.WritingLaws.{write-done, word-best}
+use Rattle.slash.proofs.WordLaws.{word-rounded, word-mark}
+use Rattle.breaths.specs.Breaths.{span, breathOf, isVoid, breathRatio, breathWord, BestBreaths}
+use Rattle.breaths.specs.Ratios.{ratioFormat, ratioWord, wordOf, fractionOf, BestRatio}
+use Rattle.breaths.specs.Sums.{noneLeft, nightRatio, nightWord}
+use Rattle.breaths.specs.Steps.{Proportion, PrintableRatio, Proper}
 use Rattle.breaths.specs.declared.breath.Breath.{Breath}
-use Rattle.breaths.specs.declared.breath.Sums.{Sums}
+use Rattle.breaths.specs.declared.sums.Sums.{Sums}
 use Rattle.breaths.specs.declared.ratio.Ratio.{Ratio}
 use Rattle.breaths.specs.declared.ratio.Ratio.the-variants.{Void, Word}
 
--- a difference modulo 2^32 is the one number that leads from the first mark to the second
+-- a difference modulo 2^32 is the one number that leads from the first tick mark to the second
 pub span-is : (from to r : ℕ) → from < 2 ^ 32 → r < 2 ^ 32 → (r + from) % 2 ^ 32 ≡ to → r ≡ span from to
 unfolding span
 span-is from to r f h e = omega arith
+
+-- and it leads there
+pub span-leads : (from to : ℕ) → from < 2 ^ 32 → to < 2 ^ 32 → (span from to + from) % 2 ^ 32 ≡ to
+unfolding span
+span-leads from to f h = omega arith
 
 pub between-is : (onset peak next i w : ℕ) → onset < 2 ^ 32 → i < 2 ^ 32 → w < 2 ^ 32
     → (i + onset) % 2 ^ 32 ≡ peak → (w + onset) % 2 ^ 32 ≡ next → record { inspiration = i; whole = w } ≡ breathOf onset peak next
@@ -80,7 +95,7 @@ module _ (limit : ℕ → ℕ → Bool) (lim : Limit limit) (N D : ℕ) (pos : 1
 
 -- ---- the word of a ratio
 
-known-format : known format ≡ true
+known-format : known ratioFormat ≡ true
 unfolding known kFits
 known-format = refl
 
@@ -89,45 +104,54 @@ module _ (N D : ℕ) (pos : 1 ≤ D) where
   unfolding isOverZero
   not-over = some-not D pos
 
-  ratio-written : done (ratioWord N D) ≡ writeNumber format (exactRatio N D)
+  ratio-written : done (ratioWord N D) ≡ writeNumber ratioFormat (exactRatio N D)
   unfolding ratioWord
-  ratio-written = write-done format _ known-format not-over
+  ratio-written = write-done ratioFormat _ known-format not-over
 
   -- demand 3
-  pub ratio-best : BestFor format N D (ratioWord N D)
-  unfolding ratioWord BestWord
-  ratio-best = word-best format known-format false (exactRatio N D .value) not-over
+  pub ratio-best : BestForRatio ratioFormat N D (ratioWord N D)
+  unfolding ratioWord BestForValue
+  ratio-best = word-best ratioFormat known-format false (exactRatio N D .value) not-over
+
+  -- demand 2, and the mark
+  ratio-rounded : fractionOf (ratioWord N D) ≡ round (holds ratioFormat) N D
+  unfolding fractionOf ratioWord
+  ratio-rounded = word-rounded ratioFormat known-format false (exactRatio N D .value) not-over
+
+  ratio-mark : numberOf ratioFormat (ratioWord N D) .approximate ≡ differs N D (fractionOf (ratioWord N D))
+  unfolding fractionOf ratioWord isNan
+  ratio-mark = word-mark ratioFormat known-format false (exactRatio N D .value) not-over
 
   -- what `slash::round_word` answers
-  module _ (f : Format) (fe : f ≡ format) (a : Written)
-      (w : (writtenOutcome a ≡ writeNumber f (exactRatio N D)) × WhenDone (writtenOutcome a) (λ v. BestFor f N D v)) where
+  module _ (f : Format) (fe : f ≡ ratioFormat) (a : Written)
+      (w : (writtenOutcome a ≡ writeNumber f (exactRatio N D)) × WhenDone (writtenOutcome a) (λ v. BestForRatio f N D v)) where
     answer : writtenOutcome a ≡ done (ratioWord N D)
     answer = w .0 ∙ ap (λ (g : Format). writeNumber g (exactRatio N D)) fe ∙ sym ratio-written
 
     pub rounded-done : (v : ℕ) → a ≡ Written.Done v → (Word v ≡ Word (ratioWord N D)) × BestRatio N D (Word v)
     unfolding BestRatio
     rounded-done v e =
-        let best : BestFor f N D v = subst (λ (o : Outcome ℕ). WhenDone o (λ u. BestFor f N D u)) (ap writtenOutcome e) (w .1) in
-        (ap Word (done-inj (sym (ap writtenOutcome e) ∙ answer)), subst (λ (g : Format). BestFor g N D v) fe best)
+        let best : BestForRatio f N D v = subst (λ (o : Outcome ℕ). WhenDone o (λ u. BestForRatio f N D u)) (ap writtenOutcome e) (w .1) in
+        (ap Word (done-inj (sym (ap writtenOutcome e) ∙ answer)), subst (λ (g : Format). BestForRatio g N D v) fe best)
 
     pub rounded-stop : (s : Stop) → a ≡ Written.Stopped s → ⊥
     rounded-stop s e = no-stop (sym (ap writtenOutcome e) ∙ answer)
 
   -- its sign is 0, and 8 hexadecimal digits are all of it
   pub ratio-unsigned : ratioWord N D < 2 ^ 31
-  unfolding ratioWord wordFor pairWord fixedWord fields
+  unfolding ratioWord wordFor pairWord fixedWord wordOfFields
   ratio-unsigned =
-      let x : Pair = round (holds format) N D in
-      let h : held (holds format) x ≡ true = round-best (holds format) (format-limit format known-format) N D pos .isHeld in
-      let l = fixed-parts format (x .numerator) (x .denominator) known-format h refl in
+      let x : Pair = round (holds ratioFormat) N D in
+      let h : held (holds ratioFormat) x ≡ true = round-best (holds ratioFormat) (format-limit ratioFormat known-format) N D pos .isHeld in
+      let l = fixed-parts ratioFormat (x .numerator) (x .denominator) known-format h refl in
       omega (arith, l, bit-lt (differs N D x), bit-false false refl)
 
-  pub ratio-shown : N ≤ D → Shown (ratioWord N D)
-  unfolding fractionOf BestFor
-  ratio-shown l =
+  pub ratio-proportion : N ≤ D → Proportion (ratioWord N D)
+  unfolding fractionOf BestForRatio
+  ratio-proportion l =
       let x : Pair = fractionOf (ratioWord N D) in
-      let b : Best (holds format) N D x = ratio-best in
-      let p = from-zero-to-one (holds format) (format-limit format known-format) N D pos l x b in
+      let b : Best (holds ratioFormat) N D x = ratio-best in
+      let p = from-zero-to-one (holds ratioFormat) (format-limit ratioFormat known-format) N D pos l x b in
       record { unsigned = ratio-unsigned; some = p .0; proper = p .1 }
 
 -- the parts of whatever word are small
@@ -192,9 +216,20 @@ module _ (b : Breath) where
   unfolding breathRatio BestRatio
   breath-best = if-case (BestRatio (b .inspiration) (b .whole)) (isVoid b) _ _ (λ h. tt) (λ h. ratio-best _ _ (good-breath h .0))
 
-  pub breath-shown : ShownRatio (breathRatio b)
+  module _ (h : isVoid b ≡ false) where
+    -- Every breath line is the exact result, in over whole, cut to its last continued-fraction convergent that the format holds.
+    pub breath-rounded : fractionOf (breathWord b) ≡ round (holds ratioFormat) (b .inspiration) (b .whole)
+    unfolding breathWord
+    breath-rounded = rw h (ratio-rounded _ _ (good-breath h .0))
+
+    -- Its mark is 1 if rounding changed the value.
+    pub breath-mark : numberOf ratioFormat (breathWord b) .approximate ≡ differs (b .inspiration) (b .whole) (fractionOf (breathWord b))
+    unfolding breathWord
+    breath-mark = rw h (ratio-mark _ _ (good-breath h .0))
+
+  pub breath-proportion : PrintableRatio (breathRatio b)
   unfolding breathRatio
-  breath-shown = if-case ShownRatio (isVoid b) _ _ (λ h. tt) (λ h. ratio-shown _ _ (good-breath h .0) (good-breath h .1))
+  breath-proportion = if-case PrintableRatio (isVoid b) _ _ (λ h. tt) (λ h. ratio-proportion _ _ (good-breath h .0) (good-breath h .1))
 
 -- ---- a night
 
@@ -219,9 +254,21 @@ module _ (s : Sums) where
   unfolding nightRatio BestRatio
   night-best = if-case (BestRatio (s .inspiration) (s .whole)) (noneLeft s) _ _ (λ h. tt) (λ h. ratio-best _ _ (some-left h))
 
-  pub night-shown : Proper s → ShownRatio (nightRatio s)
+  module _ (h : noneLeft s ≡ false) where
+    -- Every whole-night total is the exact result, the sum of in over the sum of whole, cut to its last continued-fraction convergent that the
+    -- format holds.
+    pub night-rounded : fractionOf (nightWord s) ≡ round (holds ratioFormat) (s .inspiration) (s .whole)
+    unfolding nightWord
+    night-rounded = rw h (ratio-rounded _ _ (some-left h))
+
+    -- Its mark is 1 if rounding changed the value.
+    pub night-mark : numberOf ratioFormat (nightWord s) .approximate ≡ differs (s .inspiration) (s .whole) (fractionOf (nightWord s))
+    unfolding nightWord
+    night-mark = rw h (ratio-mark _ _ (some-left h))
+
+  pub night-proportion : Proper s → PrintableRatio (nightRatio s)
   unfolding nightRatio
-  night-shown p = if-case ShownRatio (noneLeft s) _ _ (λ h. tt) (λ h. ratio-shown _ _ (some-left h) p)
+  night-proportion p = if-case PrintableRatio (noneLeft s) _ _ (λ h. tt) (λ h. ratio-proportion _ _ (some-left h) p)
 
 -- Demand 3, of some breaths.
 pub breaths-best : (bs : List Breath) → BestBreaths bs

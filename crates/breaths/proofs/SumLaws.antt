@@ -1,4 +1,6 @@
--- The sums of breaths: one breath more, and whole lists of them. Assumes nothing.
+-- The sums of breaths. Assumes nothing.
+-- `add-breath`: a breath added to the sums before is a breath in front of the list, so that breath by breath the sums are those of the list. `none-good`, `good-none`: the sum of whole is 0 just where no breath is left.
+-- `sum-proper`: one breath more keeps the sum of in at most that of whole.
 use mathlib.Core.Path.{_≡_, refl, sym, ap, _∙_, subst}
 use mathlib.Core.Bool.{Bool, true, false, _&&_, and-true, and-false}
 use mathlib.Core.List.{List, [], _∷_}
@@ -8,10 +10,11 @@ use native.Mathlib.Nat.{add-zero, zero-add, add-assoc}
 use lib.Dec.{eqb, ltb}
 use borrow.Author.Tests.{eqb-true, lt-ltb, le-ltb, ne-eqb}
 use Rattle.slash.specs.Answers.{done, unnumbered}
-use Rattle.breaths.specs.Breaths.{isVoid, noSums, withBreath, addSums, good, sumOf, sumsOf, fits, oneMore, noneLeft}
-use Rattle.breaths.specs.Shown.{Proper}
+use Rattle.breaths.specs.Breaths.{isVoid}
+use Rattle.breaths.specs.Sums.{noSums, withBreath, addSums, notVoid, total, sumsOf, fits, oneMore, noneLeft}
+use Rattle.breaths.specs.Steps.{Proper}
 use Rattle.breaths.specs.declared.breath.Breath.{Breath}
-use Rattle.breaths.specs.declared.breath.Sums.{Sums}
+use Rattle.breaths.specs.declared.sums.Sums.{Sums}
 use Rattle.breaths.proofs.RatioLaws.{good-breath}
 
 -- ---- one breath more
@@ -44,18 +47,6 @@ module _ (s : Sums) (b : Breath) where
           let g = good-breath b h in
           omega (arith, p, g .1, ap (λ (x : Sums). x .whole) (sum-good s b h), ap (λ (x : Sums). x .inspiration) (sum-good s b h))
 
-  -- none is left just where none was left before and this breath is void
-  pub none-left : noneLeft (withBreath s b) ≡ (noneLeft s && isVoid b)
-  unfolding noneLeft
-  none-left = go (isVoid b) refl
-    where
-      go : (t : Bool) → isVoid b ≡ t → eqb (withBreath s b .whole) 0 ≡ (eqb (s .whole) 0 && isVoid b)
-      go true h = rw (h, sym (sum-void s b h)) (sym (and-true (eqb (s .whole) 0)))
-      go false h =
-          let g = good-breath b h in
-          let n : withBreath s b .whole ≡ 0 → ⊥ = λ e. omega (arith, g .0, ap (λ (x : Sums). x .whole) (sum-good s b h)) in
-          ne-eqb _ _ n ∙ rw h (sym (and-false (eqb (s .whole) 0)))
-
   -- where 64 bits hold the sums
   more-is : (t : Sums) → t ≡ withBreath s b → t .inspiration < 2 ^ 64 → t .whole < 2 ^ 64 → done t ≡ oneMore s b
   unfolding oneMore fits
@@ -83,7 +74,7 @@ module _ (s : Sums) (b : Breath) where
 -- ---- the sums of some breaths
 
 pub add-none : (s : Sums) → s ≡ addSums s (sumsOf [])
-unfolding addSums sumsOf good sumOf
+unfolding addSums sumsOf notVoid total
 add-none s = rw (add-zero (s .inspiration), add-zero (s .whole)) refl
 
 pub none-add : (s : Sums) → addSums noSums s ≡ s
@@ -91,35 +82,35 @@ unfolding addSums
 none-add s = rw (zero-add (s .inspiration), zero-add (s .whole)) refl
 
 module _ (b : Breath) (bs : List Breath) where
-  good-void : isVoid b ≡ true → good (b ∷ bs) ≡ good bs
-  unfolding good
-  good-void h = rw (good, h) refl
+  good-void : isVoid b ≡ true → notVoid (b ∷ bs) ≡ notVoid bs
+  unfolding notVoid
+  good-void h = rw (notVoid, h) refl
 
-  good-good : isVoid b ≡ false → good (b ∷ bs) ≡ b ∷ good bs
-  unfolding good
-  good-good h = rw (good, h) refl
+  good-good : isVoid b ≡ false → notVoid (b ∷ bs) ≡ b ∷ notVoid bs
+  unfolding notVoid
+  good-good h = rw (notVoid, h) refl
 
   -- one breath more, in front of the others
   pub add-breath : (s : Sums) → addSums (withBreath s b) (sumsOf bs) ≡ addSums s (sumsOf (b ∷ bs))
-  unfolding addSums sumsOf sumOf
+  unfolding addSums sumsOf total
   add-breath s = go (isVoid b) refl
     where
       go : (t : Bool) → isVoid b ≡ t → addSums (withBreath s b) (sumsOf bs) ≡ addSums s (sumsOf (b ∷ bs))
       go true h = rw (sym (sum-void s b h), good-void h) refl
-      go false h = rw (sym (sum-good s b h), good-good h, add-assoc (s .inspiration) (b .inspiration) (sumOf (λ x. x .inspiration) (good bs)), add-assoc (s .whole) (b .whole) (sumOf (λ x. x .whole) (good bs))) refl
+      go false h = rw (sym (sum-good s b h), good-good h, add-assoc (s .inspiration) (b .inspiration) (total (λ x. x .inspiration) (notVoid bs)), add-assoc (s .whole) (b .whole) (total (λ x. x .whole) (notVoid bs))) refl
 
 -- A night is void just where every breath of it is: none is left.
-pub none-good : (bs : List Breath) → noneLeft (sumsOf bs) ≡ true → good bs ≡ []
-unfolding noneLeft sumsOf good sumOf
+pub none-good : (bs : List Breath) → noneLeft (sumsOf bs) ≡ true → notVoid bs ≡ []
+unfolding noneLeft sumsOf notVoid total
 none-good [] e = refl
 none-good (b ∷ bs) e = go (isVoid b) refl (none-good bs)
   where
-    go : (t : Bool) → isVoid b ≡ t → (noneLeft (sumsOf bs) ≡ true → good bs ≡ []) → good (b ∷ bs) ≡ []
-    go true h ih = good-void b bs h ∙ ih (ap (λ (l : List Breath). eqb (sumOf (λ x. x .whole) l) 0) (sym (good-void b bs h)) ∙ e)
+    go : (t : Bool) → isVoid b ≡ t → (noneLeft (sumsOf bs) ≡ true → notVoid bs ≡ []) → notVoid (b ∷ bs) ≡ []
+    go true h ih = good-void b bs h ∙ ih (ap (λ (l : List Breath). eqb (total (λ x. x .whole) l) 0) (sym (good-void b bs h)) ∙ e)
     go false h ih =
-        let z : sumOf (λ x. x .whole) (b ∷ good bs) ≡ 0 = eqb-true _ _ (ap (λ (l : List Breath). eqb (sumOf (λ x. x .whole) l) 0) (sym (good-good b bs h)) ∙ e) in
+        let z : total (λ x. x .whole) (b ∷ notVoid bs) ≡ 0 = eqb-true _ _ (ap (λ (l : List Breath). eqb (total (λ x. x .whole) l) 0) (sym (good-good b bs h)) ∙ e) in
         absurd (omega (arith, good-breath b h .0, z))
 
-pub good-none : (bs : List Breath) → good bs ≡ [] → noneLeft (sumsOf bs) ≡ true
-unfolding noneLeft sumsOf sumOf
-good-none bs e = ap (λ (l : List Breath). eqb (sumOf (λ x. x .whole) l) 0) e
+pub good-none : (bs : List Breath) → notVoid bs ≡ [] → noneLeft (sumsOf bs) ≡ true
+unfolding noneLeft sumsOf total
+good-none bs e = ap (λ (l : List Breath). eqb (total (λ x. x .whole) l) 0) e

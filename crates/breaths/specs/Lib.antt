@@ -1,3 +1,6 @@
 -- What the papers say of a breath and of a night, in their order.
+pub mod Ratios
 pub mod Breaths
-pub mod Shown
+pub mod Sums
+-- For the code and the proofs alone.
+pub mod Steps

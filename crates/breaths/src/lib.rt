@@ -1,8 +1,9 @@
 // A breath's durations, a night's sums of them, and their ratios as slash words.
 mod breath;
 mod ratio;
+mod sums;
 
-pub use breath::Added;
 pub use breath::Breath;
-pub use breath::Sums;
 pub use ratio::Ratio;
+pub use sums::Added;
+pub use sums::Sums;

@@ -1,7 +1,7 @@
 // A ratio as a slash word of fixed k = 15.
 ghost use mathlib.Core.Path.{_≡_};
 ghost use Prim.Native.Nat.{_≤_};
-ghost use Rattle.breaths.specs.Breaths.{format, ratioWord, wordOf, BestRatio};
+ghost use Rattle.breaths.specs.Ratios.{ratioFormat, ratioWord, wordOf, BestRatio};
 use slash::Format;
 use slash::Written;
 
@@ -14,7 +14,7 @@ pub enum Ratio {
 impl Ratio {
     // The format of every ratio's word.
     pub fn format() -> Format
-        ensures { λ r. ⌜ r ≡ format ⌝ }
+        ensures { λ r. ⌜ r ≡ ratioFormat ⌝ }
     {
         Format {
             kind: Format::FIXED,

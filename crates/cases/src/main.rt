@@ -6,7 +6,6 @@ mod places;
 mod requests;
 mod show;
 mod single;
-mod table;
 mod words;
 
 use libc::STDIN_FILENO;
@@ -69,29 +68,18 @@ fn fed(line: Line, all: &mut [u64], b: u8) -> Line {
     next
 }
 
-// The line after some bytes more.
-fn fed_all(line: Line, all: &mut [u64], bytes: &[u8]) -> Line {
-    let mut next = line;
-    let mut i = 0;
-    while i < bytes.len() {
-        next = fed(next, all, bytes[i]);
-        i += 1;
-    }
-    next
-}
-
+// Reads a byte at a time: it costs a fraction of a second, and a buffer would want a loop of its own.
 fn main() {
-    let mut buffer = io::large_buffer();
+    let mut byte = [0u8; 1];
     let mut line = empty();
     let mut all = [0u64; 64];
-    // At most so many buffers, since a program has to end.
-    let mut left: u64 = 1000000;
+    // At most so many bytes, since a program has to end.
+    let mut left: u64 = 1000000000000;
     while left > 0 {
-        let n = io::read_full(STDIN_FILENO, &mut buffer);
-        if n == 0 {
+        if io::read_full(STDIN_FILENO, &mut byte) == 0 {
             return;
         }
-        line = fed_all(line, &mut all, &buffer[..n]);
+        line = fed(line, &mut all, byte[0]);
         left -= 1;
     }
 }

@@ -26,17 +26,11 @@ pub(crate) fn show_word(a: Written) {
     }
 }
 
-// One of many answers, parted by spaces; a stop is ! and its number.
-pub(crate) fn show_one(first: bool, a: Written) {
-    if !first {
-        show::text(b" ");
-    }
+// A word as one of many answers.
+pub(crate) fn show_one(a: Written) {
     match a {
         Written::Done(w) => show::hexadecimal(w),
-        Written::Stopped(s) => {
-            show::text(b"!");
-            show::number(s.number);
-        }
+        Written::Stopped(s) => show::short_stop(s),
     }
 }
 
@@ -50,7 +44,8 @@ pub(crate) fn binary_all(f: Format, code: u64, left: u64) {
     let n = count(f);
     let mut right: u64 = 0;
     while right < n {
-        show_one(right == 0, arithmetic::binary(f, code, left, right));
+        show::separator(right == 0);
+        show_one(arithmetic::binary(f, code, left, right));
         right += 1;
     }
 }
@@ -100,7 +95,8 @@ pub(crate) fn convert_all(f: Format, to: Format) {
     let n = count(f);
     let mut w: u64 = 0;
     while w < n {
-        show_one(w == 0, conversion::convert(f, to, w));
+        show::separator(w == 0);
+        show_one(conversion::convert(f, to, w));
         w += 1;
     }
 }

@@ -1,14 +1,15 @@
 // Requests on vectors: lengths, at most 16 each, then the words of each vector, the result's last.
 ghost use Prim.Native.Nat.{_≤_};
 use crate::show;
+use slash::Completion;
 use slash::Format;
-use slash::Told;
 
-fn show_stored(r: Told) {
-    match r {
-        Told::Done => show::text(b"done"),
-        Told::Stopped(s) => show::stop(s),
-    }
+// What the check of the operands and the operation told, and the words that it stored.
+fn show_stored(checked: Completion, stored: Completion, words: &[u64]) {
+    show::told(checked);
+    show::text(b" ");
+    show::told(stored);
+    show_words(words);
 }
 
 fn show_words(words: &[u64]) {
@@ -48,8 +49,11 @@ pub(crate) fn binary_each(f: Format, code: u64, left: u64, right: u64, out: u64,
     let mut result = [0u64; 16];
     let lent = &mut result[..n];
     copy(&all[end..], lent);
-    show_stored(arithmetic::binary_each(f, code, &all[7..middle], &all[middle..end], lent));
-    show_words(lent);
+    let lefts = &all[7..middle];
+    let rights = &all[middle..end];
+    let checked = vectors::check_pairs(f, lefts, rights);
+    let stored = arithmetic::binary_each(f, code, lefts, rights, lent);
+    show_stored(checked, stored, lent);
 }
 
 // y KIND K CODE OPERAND OUT WORDS
@@ -62,8 +66,10 @@ pub(crate) fn unary_each(f: Format, code: u64, operand: u64, out: u64, all: &[u6
     let mut result = [0u64; 16];
     let lent = &mut result[..n];
     copy(&all[end..], lent);
-    show_stored(unary::unary_each(f, code, &all[6..end], lent));
-    show_words(lent);
+    let operands = &all[6..end];
+    let checked = vectors::check_words(f, operands);
+    let stored = unary::unary_each(f, code, operands, lent);
+    show_stored(checked, stored, lent);
 }
 
 // z KIND K TO_KIND TO_K OPERAND OUT WORDS
@@ -76,6 +82,8 @@ pub(crate) fn convert_each(f: Format, to: Format, operand: u64, out: u64, all: &
     let mut result = [0u64; 16];
     let lent = &mut result[..n];
     copy(&all[end..], lent);
-    show_stored(conversion::convert_each(f, to, &all[7..end], lent));
-    show_words(lent);
+    let operands = &all[7..end];
+    let checked = vectors::check_words(f, operands);
+    let stored = conversion::convert_each(f, to, operands, lent);
+    show_stored(checked, stored, lent);
 }

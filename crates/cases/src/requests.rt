@@ -4,7 +4,6 @@ use crate::operations;
 use crate::places;
 use crate::show;
 use crate::single;
-use crate::table;
 use crate::words;
 use slash::Format;
 
@@ -25,7 +24,6 @@ fn run_words(line: Line) {
         b'r' => words::read(f, a[3]),
         b'w' => words::write(f, words::value(a[3], a[4] == 1, a[5], a[6]), a[7] == 1),
         b'n' => words::round(f, a[3], a[4]),
-        b'c' => table::list(a[1], a[2]),
         b'b' => operations::binary(f, a[3], a[4], a[5]),
         b'B' => operations::binary_all(f, a[3], a[4]),
         b'o' => operations::compare(f, a[3], a[4]),

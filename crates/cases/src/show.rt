@@ -1,5 +1,6 @@
 // Writes the pieces of an answer to standard output.
 use libc::STDOUT_FILENO;
+use slash::Completion;
 use slash::Stop;
 
 pub(crate) fn text(bytes: &[u8]) {
@@ -21,9 +22,9 @@ pub(crate) fn pair(r: u64, s: u64) {
     number(s);
 }
 
-// A space, and 1 for an approximate value.
-pub(crate) fn mark(approximate: bool) {
-    if approximate {
+// A space, and 1 for an approximate value or a negative one.
+pub(crate) fn bit(set: bool) {
+    if set {
         text(b" 1");
     } else {
         text(b" 0");
@@ -44,4 +45,25 @@ pub(crate) fn stop(s: Stop) {
     number(s.number);
     text(b" ");
     number(s.place);
+}
+
+// What a call tells that makes nothing.
+pub(crate) fn told(t: Completion) {
+    match t {
+        Completion::Done => text(b"done"),
+        Completion::Stopped(s) => stop(s),
+    }
+}
+
+// A space before each of many answers but the first.
+pub(crate) fn separator(first: bool) {
+    if !first {
+        text(b" ");
+    }
+}
+
+// A stop as one of many answers.
+pub(crate) fn short_stop(s: Stop) {
+    text(b"!");
+    number(s.number);
 }

@@ -1,7 +1,7 @@
 // Requests on one word.
 ghost use Prim.Native.Nat.{_≤_};
-use crate::operations;
 use crate::operations::count;
+use crate::operations::show_one;
 use crate::operations::show_word;
 use crate::show;
 use crate::words::show_number;
@@ -18,7 +18,8 @@ pub(crate) fn operation_all(f: Format, code: u64) {
     let n = count(f);
     let mut w: u64 = 0;
     while w < n {
-        operations::show_one(w == 0, unary::unary(f, code, w));
+        show::separator(w == 0);
+        show_one(unary::unary(f, code, w));
         w += 1;
     }
 }
@@ -28,17 +29,11 @@ pub(crate) fn gcd(f: Format, w: u64) {
     show_number(euclid::gcd(f, w));
 }
 
-// One of many answers, parted by spaces; a stop is ! and its number.
-fn show_one(first: bool, a: Answer) {
-    if !first {
-        show::text(b" ");
-    }
+// A divisor as one of many answers.
+fn show_divisor(a: Answer) {
     match a {
         Answer::Done(n) => show::number(n),
-        Answer::Stopped(s) => {
-            show::text(b"!");
-            show::number(s.number);
-        }
+        Answer::Stopped(s) => show::short_stop(s),
     }
 }
 
@@ -47,7 +42,8 @@ pub(crate) fn gcd_all(f: Format) {
     let n = count(f);
     let mut w: u64 = 0;
     while w < n {
-        show_one(w == 0, euclid::gcd(f, w));
+        show::separator(w == 0);
+        show_divisor(euclid::gcd(f, w));
         w += 1;
     }
 }

@@ -2,6 +2,8 @@
 use crate::operations::show_word;
 use crate::show;
 use slash::Answer;
+use slash::Checked;
+use slash::Fields;
 use slash::Format;
 use slash::Made;
 use slash::Number;
@@ -18,8 +20,10 @@ pub(crate) fn show_number(a: Answer) {
     }
 }
 
-// f KIND K: the width and the largest parts.
+// f KIND K: what the check of the format tells, then the width and the largest parts.
 pub(crate) fn format(kind: u64, k: u64) {
+    show::told(Format { kind: kind, k: k }.check());
+    show::text(b" ");
     match Format::make(kind, k) {
         Made::Done(f) => {
             show_number(f.width());
@@ -50,15 +54,42 @@ fn show_value(v: Value) {
     }
 }
 
-// r KIND K WORD: what a word says.
+// A space, and a field of a word.
+fn show_field(field: u64) {
+    show::text(b" ");
+    show::number(field);
+}
+
+// The fields of a word, the highest first.
+fn show_fields(fields: Fields) {
+    match fields {
+        Fields::Fixed(x) => {
+            show::bit(x.negative);
+            show_field(x.numerator);
+            show::bit(x.approximate);
+            show_field(x.denominator);
+        }
+        Fields::Floating(x) => {
+            show::bit(x.negative);
+            show::bit(x.approximate);
+            show_field(x.position);
+            show_field(x.field);
+        }
+    }
+}
+
+// r KIND K WORD: what a word says, and its fields.
 pub(crate) fn read(f: Format, w: u64) {
     match slash::read(f, w) {
         Reading::Done(x) => {
             let v = x.value;
             show_value(v);
-            show::mark(x.approximate);
+            show::bit(x.approximate);
         }
         Reading::Stopped(s) => show::stop(s),
+    }
+    if let Checked::Good(good) = slash::check(f, w) {
+        show_fields(good.fields());
     }
 }
 
@@ -90,7 +121,7 @@ pub(crate) fn round(f: Format, n: u64, d: u64) {
     match slash::round(f, n, d) {
         Rounding::Done(r) => {
             show::pair(r.numerator, r.denominator);
-            show::mark(r.approximate);
+            show::bit(r.approximate);
         }
         Rounding::Stopped(s) => show::stop(s),
     }

@@ -1,6 +1,6 @@
 -- Why rounding gives the best pair.
 pub mod Neighbours
-pub mod Euclid
+pub mod ConvergentLaws
 pub mod Optimal
-pub mod Theorem
-pub mod Loop
+pub mod BestLaws
+pub mod RoundingLaws

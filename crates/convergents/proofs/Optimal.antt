@@ -1,4 +1,5 @@
--- The state in which the rounding stops has the best pair. Assumes nothing.
+-- Where the rounding stops, the pair is the best. Assumes nothing.
+-- `last-best`: where no convergent is left, or the next isn't held, no held pair does better than the one reached. `one-held`: 1/0 is held.
 use Prim.Native.Nat.{ℕ, zero, suc, _+_, _*_, _/_, _%_, _≤_, _<_}
 use mathlib.Core.Path.{_≡_, refl, sym, ap, subst, _∙_}
 use mathlib.Core.Logic.{_⊎_, inl, inr, _≢_}
@@ -10,8 +11,8 @@ use native.Mathlib.Nat.{eq-of-mul-eq-mul-right, mod-lt}
 use Rattle.convergents.specs.Pairs.{Pair, pair, miss, Better}
 use Rattle.convergents.specs.Rounding.{Limit, held}
 use Rattle.convergents.specs.Best.{Best}
-use Rattle.convergents.proofs.Neighbours.{Det, det-mirror, blocked, nowhere, outside, multiple}
-use Rattle.convergents.proofs.Euclid.{Inv, Phase, miss-is, up, inv-next, up-den, up-wide}
+use Rattle.convergents.proofs.Neighbours.{Det, det-mirror, none-between, not-both, outside, multiple}
+use Rattle.convergents.proofs.ConvergentLaws.{Inv, Phase, miss-is, up, inv-next, up-den, up-wide}
 
 -- which way two numbers stand
 data Tri (a b : ℕ) : Type 0 where
@@ -80,11 +81,11 @@ module _ (N D P Q p q d m : ℕ) (i : Inv N D p q P Q d m) (here : miss N D (pai
 
   -- between P/Q and p/q there is nothing within reach
   none-above : r * Q ≤ s * P → s * p < r * q → Better N D (pair p q) (pair r s)
-  none-above h k = absurd (blocked P Q p q r s (i .det) (omega arith) far h k)
+  none-above h k = absurd (none-between P Q p q r s (i .det) (omega arith) far h k)
 
   none-below : s * P ≤ r * Q → r * q < s * p → Better N D (pair p q) (pair r s)
   none-below h k =
-      absurd (blocked Q P q p s r (det-mirror P Q p q (i .det)) (omega arith) (λ x y. far y x) h k)
+      absurd (none-between Q P q p s r (det-mirror P Q p q (i .det)) (omega arith) (λ x y. far y x) h k)
 
   stop : Better N D (pair p q) (pair r s)
   stop = go (tri (r * Q) (s * P)) (tri (s * p) (r * q))
@@ -94,7 +95,7 @@ module _ (N D P Q p q d m : ℕ) (i : Inv N D p q P Q d m) (here : miss N D (pai
       go (less h) (same k) = right h (omega arith)
       go (less h) (more k) = right h (omega arith)
       go (same h) (less k) = none-above (omega arith) k
-      go (same h) (same k) = absurd (nowhere P Q p q r s (i .det) h k l)
+      go (same h) (same k) = absurd (not-both P Q p q r s (i .det) h k l)
       go (same h) (more k) = none-below (omega arith) k
       go (more h) (less k) = left h (omega arith)
       go (more h) (same k) = left h (omega arith)

@@ -21,7 +21,7 @@ Lowest n d = (g : ℕ) → g ∣ n → g ∣ d → g ≡ 1
 abbrev pub apart : ℕ → ℕ → ℕ
 apart m n = (m - n) + (n - m)
 
--- The miss of r/s for N/D: the size of s times N less r times D.
+-- The papers' *miss* of r/s for N/D: the size of s times N less r times D.
 abbrev pub miss : ℕ → ℕ → Pair → ℕ
 miss N D x = apart (x .denominator * N) (x .numerator * D)
 

@@ -26,12 +26,12 @@ lastHeld holds x (y ∷ ys) = elim (held holds y) [ true ↦ lastHeld holds y ys
 unfoldable pub round : (ℕ → ℕ → Bool) → ℕ → ℕ → Pair
 round holds N D = lastHeld holds (pair 1 0) (convergents N D)
 
--- None of a list is held.
+-- 01: the ones held come first in the list (`held-first`). None of a list is held:
 abbrev pub NoneHeld : (ℕ → ℕ → Bool) → List Pair → Type 0
 NoneHeld holds [] = Unit {0}
 NoneHeld holds (y ∷ ys) = (held holds y ≡ false) × NoneHeld holds ys
 
--- The held ones of a list come first.
+-- and the held ones of a list come first.
 pub data HeldFirst (holds : ℕ → ℕ → Bool) : List Pair → Type 0 where
   rest : {ys : List Pair} → NoneHeld holds ys → HeldFirst holds ys
   more : {y : Pair} {ys : List Pair} → held holds y ≡ true → HeldFirst holds ys → HeldFirst holds (y ∷ ys)

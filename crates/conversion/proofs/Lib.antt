@@ -1,3 +1,3 @@
--- The laws that the functions' proofs cite.
+-- The laws that the functions' proofs cite, and what follows from the definitions.
 pub mod ConversionLaws
-pub mod VectorLaws
+pub mod EachLaws

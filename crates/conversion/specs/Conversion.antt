@@ -3,13 +3,14 @@
 use Prim.Native.Nat.{ℕ}
 use Rattle.slash.specs.Answers.{Outcome, done, _then_}
 use Rattle.slash.specs.Formats.{whenKnown}
-use Rattle.slash.specs.Words.{checkWord, numberOf, wordFor}
+use Rattle.slash.specs.Reading.{checkWord, numberOf}
+use Rattle.slash.specs.Writing.{wordFor}
 use Rattle.slash.specs.declared.format.Format.{Format}
 use Rattle.slash.specs.declared.number.Number.{Number}
 
 -- Stop 1 for the source format and then for the target's, then 4 and 5.
-unfoldable pub convertStops : (source target : Format) → ℕ → Outcome (Unit {0})
-convertStops source target w =
+unfoldable pub checkConvert : (source target : Format) → ℕ → Outcome (Unit {0})
+checkConvert source target w =
     whenKnown source (
     whenKnown target (
     checkWord source w))
@@ -20,5 +21,5 @@ converted source target w = let x : Number = numberOf source w in wordFor target
 
 unfoldable pub convertWord : (source target : Format) → ℕ → Outcome ℕ
 convertWord source target w =
-    convertStops source target w then λ _.
+    checkConvert source target w then λ _.
     done (converted source target w)

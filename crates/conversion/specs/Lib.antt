@@ -1,3 +1,3 @@
 -- What the papers say of conversion.
 pub mod Conversion
-pub mod Vectors
+pub mod Each

@@ -1,23 +1,24 @@
 // Conversion of a word into another format.
 ghost use mathlib.Core.Path.{_≡_};
 ghost use Rattle.slash.specs.Answers.{writtenOutcome, WhenDone};
-ghost use Rattle.slash.specs.Words.{BestWord, numberOf};
+ghost use Rattle.slash.specs.Best.{BestForValue};
+ghost use Rattle.slash.specs.Reading.{numberOf};
 ghost use Rattle.conversion.specs.Conversion.{convertWord};
 use slash::Checked;
+use slash::Completion;
 use slash::Format;
 use slash::Number;
-use slash::Told;
 use slash::Written;
 
 // w, a word of the source format, as a word of the target's.
 pub fn convert(source: Format, target: Format, w: u64) -> Written
     ensures written { λ r. ⌜ writtenOutcome r ≡ convertWord source target w ⌝ }
-    ensures best { λ r. ⌜ WhenDone (writtenOutcome r) (λ v. BestWord target (numberOf source w .value) v) ⌝ }
+    ensures best { λ r. ⌜ WhenDone (writtenOutcome r) (λ v. BestForValue target (numberOf source w .value) v) ⌝ }
 {
-    if let Told::Stopped(s) = source.check() {
+    if let Completion::Stopped(s) = source.check() {
         return Written::Stopped(s);
     }
-    if let Told::Stopped(s) = target.check() {
+    if let Completion::Stopped(s) = target.check() {
         return Written::Stopped(s);
     }
     match slash::check(source, w) {

@@ -3,16 +3,17 @@ ghost use mathlib.Core.Path.{_≡_};
 ghost use mathlib.Core.Bool.{true};
 ghost use mathlib.Core.List.{map};
 ghost use lib.ListN.{length};
-ghost use Rattle.slash.specs.Answers.{orZero, toldOutcome, WhenDone};
+ghost use Rattle.slash.specs.Steps.{orZero};
+ghost use Rattle.slash.specs.Answers.{completionOutcome, WhenDone};
 ghost use Rattle.slash.specs.Formats.{known};
-ghost use Rattle.vectors.specs.Each.{vectorAfter, told, EachPlace};
+ghost use Rattle.vectors.specs.Each.{vectorAfter, stopOnly, EachPlace};
 ghost use Rattle.conversion.specs.Conversion.{convertWord};
-ghost use Rattle.conversion.specs.Vectors.{convertEach, BestConverted};
+ghost use Rattle.conversion.specs.Each.{convertEach, BestConverted};
 use slash::Checked;
+use slash::Completion;
 use slash::Format;
 use slash::Number;
 use slash::Stop;
-use slash::Told;
 use slash::Written;
 
 // The word of `convert` at a place, or 0 where the word is refused.
@@ -47,26 +48,26 @@ fn store_converted(source: Format, target: Format, operand: &[u64], out: &mut [u
 }
 
 // A conversion at each place of operand.
-pub fn convert_each(source: Format, target: Format, operand: &[u64], out: &mut [u64]) -> Told
-    ensures answered { λ r. ⌜ toldOutcome r ≡ told (convertEach source target (now (operand .entry)) (now (out .entry))) ⌝ }
+pub fn convert_each(source: Format, target: Format, operand: &[u64], out: &mut [u64]) -> Completion
+    ensures answered { λ r. ⌜ completionOutcome r ≡ stopOnly (convertEach source target (now (operand .entry)) (now (out .entry))) ⌝ }
     ensures stored { λ _. ⌜ now (out .exit) ≡ vectorAfter (convertEach source target (now (operand .entry)) (now (out .entry))) (now (out .entry)) ⌝ }
-    ensures best { λ r. ⌜ WhenDone (toldOutcome r) (λ _. EachPlace (BestConverted source target) (now (operand .entry)) (now (out .exit))) ⌝ }
+    ensures best { λ r. ⌜ WhenDone (completionOutcome r) (λ _. EachPlace (BestConverted source target) (now (operand .entry)) (now (out .exit))) ⌝ }
 {
-    if let Told::Stopped(s) = source.check() {
-        return Told::Stopped(s);
+    if let Completion::Stopped(s) = source.check() {
+        return Completion::Stopped(s);
     }
-    if let Told::Stopped(s) = target.check() {
-        return Told::Stopped(s);
+    if let Completion::Stopped(s) = target.check() {
+        return Completion::Stopped(s);
     }
     if operand.len() != out.len() {
-        return Told::Stopped(Stop::plain(Stop::LENGTH));
+        return Completion::Stopped(Stop::plain(Stop::LENGTH));
     }
     let checked = vectors::check_words(source, operand);
     match checked {
-        Told::Stopped(s) => Told::Stopped(s),
-        Told::Done => {
+        Completion::Stopped(s) => Completion::Stopped(s),
+        Completion::Done => {
             store_converted(source, target, operand, out);
-            Told::Done
+            Completion::Done
         }
     }
 }

@@ -1,4 +1,5 @@
--- Euclid's algorithm comes to the greatest common divisor. Assumes nothing.
+-- The greatest common divisor. Assumes nothing.
+-- `common-end`, `greatest-is`: what Euclid's algorithm comes to is the greatest number that divides both.
 use mathlib.Core.Path.{_≡_, refl, sym, ap₂, _∙_, subst}
 use mathlib.Core.Bool.{Bool, true, false, _&&_, true≢false}
 use Prim.Native.Nat.{ℕ, zero, suc, _+_, _%_, _≤_, _∣_}

@@ -1,4 +1,6 @@
 -- Counting and storing partial quotients. Assumes nothing.
+-- `quotients-at-most`: a word has at most 2k of them. `never-more`: so none has more than 64. `value-quotients`: those of a value are those of
+-- its pair. `count-end`, `store-end`: what the two loops come to.
 use mathlib.Core.Path.{_≡_, refl, sym, ap, _∙_, subst}
 use mathlib.Core.Bool.{true, false}
 use mathlib.Core.List.{List, [], _∷_, _++_, append-assoc, append-nil}
@@ -12,20 +14,21 @@ use lib.Seq.{length-take-le, take-suc-set, drop-set-lt, drop-drop}
 use lib.Dec.{ltb}
 use borrow.Author.Tests.{le-leb, lt-leb, le-ltb, ltb-true, ltb-false}
 use Rattle.convergents.specs.Convergents.{euclid, quotients}
-use Rattle.convergents.proofs.Theorem.{euclid-enough, euclid-done}
+use Rattle.convergents.proofs.BestLaws.{euclid-enough, euclid-done}
 use Rattle.slash.specs.Answers.{Outcome, stop, done, _then_}
 use Rattle.convergents.specs.Pairs.{Pair, pair}
-use Rattle.slash.specs.Words.{partsOf, pairOf, numberOf, numberIn, checkWord, readWord}
+use Rattle.slash.specs.Numbers.{partsOf, pairOf}
+use Rattle.slash.specs.Reading.{numberOf, numberIn, checkWord, readWord}
 use Rattle.slash.proofs.AnswerLaws.{then-stop, then-done, done-inj, no-stop}
 use Rattle.slash.proofs.FormatLaws.{largest-below}
-use Rattle.slash.proofs.WordLaws.{checked-known, checked-number, checked-read}
-use Rattle.slash.proofs.Canonical.{held-most, read-known, read-held}
+use Rattle.slash.proofs.ReadingLaws.{checked-known, checked-number, checked-read}
+use Rattle.slash.proofs.CanonicalLaws.{held-most, read-known, read-held}
 use Rattle.slash.specs.declared.format.Format.{Format}
 use Rattle.slash.specs.declared.number.Number.{Number}
 use Rattle.slash.specs.declared.number.Parts.{Parts}
 use Rattle.slash.specs.declared.number.Value.{Value}
 use Rattle.slash.specs.declared.number.Value.the-variants.{Fraction, Zero, Infinity, NotANumber}
-use Rattle.euclid.specs.Quotients.{valueQuotients, wordQuotients, countIn, storedIn, quotientCount, listed}
+use Rattle.euclid.specs.Quotients.{valueQuotients, wordQuotients, countIn, storedIn, quotientCount, quotientsAfter}
 
 -- one turn, and the end
 next-quotient : (n d : ℕ) → 1 ≤ d → quotients n d ≡ n / d ∷ quotients d (n % d)
@@ -146,8 +149,8 @@ module _ (f : Format) (w : ℕ) (c : checkWord f w ≡ done tt) (v : Value) (ve 
 
   pub quotients-done : (list : List ℕ) (o : Outcome ℕ) (after : List ℕ)
       → (o ≡ countIn list (quotients (p .numerator) (p .denominator))) × (after ≡ storedIn list (quotients (p .numerator) (p .denominator)))
-      → (o ≡ quotientCount f w list) × (after ≡ listed (wordQuotients f w) list)
-  unfolding quotientCount wordQuotients listed
+      → (o ≡ quotientCount f w list) × (after ≡ quotientsAfter (wordQuotients f w) list)
+  unfolding quotientCount wordQuotients quotientsAfter
   quotients-done list o after s =
       let x : Number = numberOf f w in
       let r : done x ≡ readWord f w = sym (checked-read f w c) in
@@ -155,15 +158,15 @@ module _ (f : Format) (w : ℕ) (c : checkWord f w ≡ done tt) (v : Value) (ve 
       ap (λ (y : Pair). quotients (y .numerator) (y .denominator)) pair-is ∙ value-quotients (x .value)
       in (
         then-done _ (then-done _ r refl) (s .0 ∙ ap (countIn list) q),
-        s .1 ∙ ap (storedIn list) q ∙ ap (λ (k : Outcome (List ℕ)). listed k list) (then-done _ r refl),
+        s .1 ∙ ap (storedIn list) q ∙ ap (λ (k : Outcome (List ℕ)). quotientsAfter k list) (then-done _ r refl),
       )
 
 module _ (f : Format) (w : ℕ) (list : List ℕ) where
-  pub quotients-stop : {n p : ℕ} → stop n p ≡ readWord f w → (stop n p ≡ quotientCount f w list) × (list ≡ listed (wordQuotients f w) list)
-  unfolding quotientCount wordQuotients listed
+  pub quotients-stop : {n p : ℕ} → stop n p ≡ readWord f w → (stop n p ≡ quotientCount f w list) × (list ≡ quotientsAfter (wordQuotients f w) list)
+  unfolding quotientCount wordQuotients quotientsAfter
   quotients-stop {n} {p} e = (
     then-stop _ (then-stop _ e),
-    ap (λ (o : Outcome (List ℕ)). listed o list) (then-stop _ e),
+    ap (λ (o : Outcome (List ℕ)). quotientsAfter o list) (then-stop _ e),
   )
 
 -- ---- there are at most 2k of them

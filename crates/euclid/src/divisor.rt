@@ -1,6 +1,6 @@
 // The greatest common divisor of a word's stored parts.
 ghost use mathlib.Core.Path.{_≡_};
-ghost use Rattle.slash.specs.Answers.{outcome};
+ghost use Rattle.slash.specs.Answers.{answerOutcome};
 ghost use Rattle.euclid.specs.Divisor.{gcdOf, valueGcd, gcdWord};
 use slash::Answer;
 use slash::Checked;
@@ -34,7 +34,7 @@ fn value_divisor(v: Value) -> u64
 
 // The greatest common divisor of the stored parts of a word; 0 where it is no nonzero fraction.
 pub fn gcd(f: Format, w: u64) -> Answer
-    ensures { λ r. ⌜ outcome r ≡ gcdWord f w ⌝ }
+    ensures { λ r. ⌜ answerOutcome r ≡ gcdWord f w ⌝ }
 {
     match slash::check(f, w) {
         Checked::Stopped(s) => Answer::Stopped(s),

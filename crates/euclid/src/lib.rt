@@ -1,7 +1,7 @@
 // What Euclid's algorithm says of one word: the greatest common divisor of its stored parts, and its
 // partial quotients.
 mod divisor;
-mod expansion;
+mod quotient;
 
 pub use divisor::gcd;
-pub use expansion::quotients;
+pub use quotient::quotients;

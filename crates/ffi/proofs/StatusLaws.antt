@@ -1,10 +1,12 @@
--- Laws of what a call returns and leaves behind a pointer. Assumes nothing.
+-- What a call returns and leaves behind a pointer. Assumes nothing.
+-- `status-stop`, `status-done`: the stop's number and place, and nothing stored; or 0, and the result stored. `vector-stop`, `vector-done`:
+-- what a vector form returns; `vector-as`: and what stands in the vector. `stored-best`, `stored-made`: and the clause `best` is handed on.
 use mathlib.Core.Path.{_≡_, refl, sym, ap, _∙_, subst}
 use mathlib.Core.List.{List}
 use Prim.Native.Nat.{ℕ, _+_, _*_, _%_, _^_}
-use Rattle.slash.specs.Answers.{Outcome, stop, done, toldOutcome, WhenDone}
-use Rattle.slash.specs.declared.answer.Told.{Told}
-use Rattle.vectors.specs.Each.{told, vectorAfter}
+use Rattle.slash.specs.Answers.{Outcome, stop, done, completionOutcome, WhenDone}
+use Rattle.slash.specs.declared.answer.Completion.{Completion}
+use Rattle.vectors.specs.Each.{stopOnly, vectorAfter}
 use Rattle.ffi.specs.Status.{status, behind}
 
 behind-done : (x old : ℕ) → behind (done x) old ≡ x
@@ -47,19 +49,19 @@ unfolding status
 vector-done q e = rw (← e) refl
 
 -- what is told of a vector, and is best at each place where nothing stopped
-status-told : (p : Outcome (List ℕ)) → status (told p) ≡ status p
-unfolding status told
-status-told (stop n i) = refl
-status-told (done x) = refl
+status-stop-only : (p : Outcome (List ℕ)) → status (stopOnly p) ≡ status p
+unfolding status stopOnly
+status-stop-only (stop n i) = refl
+status-stop-only (done x) = refl
 
-when-told : (p : Outcome (List ℕ)) (X : Type 0) → WhenDone (told p) (λ _. X) → WhenDone p (λ _. X)
-unfolding told
-when-told (stop n i) X w = w
-when-told (done x) X w = w
+when-stop-only : (p : Outcome (List ℕ)) (X : Type 0) → WhenDone (stopOnly p) (λ _. X) → WhenDone p (λ _. X)
+unfolding stopOnly
+when-stop-only (stop n i) X w = w
+when-stop-only (done x) X w = w
 
-pub vector-as : (o : Outcome (List ℕ)) (v : Told) (X : Type 0) (r : ℕ) (old new : List ℕ) → (toldOutcome v ≡ told o) × ((new ≡ vectorAfter o old) × WhenDone (toldOutcome v) (λ _. X))
-    → r ≡ status (toldOutcome v) → (r ≡ status o) × ((new ≡ vectorAfter o old) × WhenDone o (λ _. X))
+pub vector-as : (o : Outcome (List ℕ)) (v : Completion) (X : Type 0) (r : ℕ) (old new : List ℕ) → (completionOutcome v ≡ stopOnly o) × ((new ≡ vectorAfter o old) × WhenDone (completionOutcome v) (λ _. X))
+    → r ≡ status (completionOutcome v) → (r ≡ status o) × ((new ≡ vectorAfter o old) × WhenDone o (λ _. X))
 vector-as o v X r old new s e = (
-  e ∙ ap status (s .0) ∙ status-told o,
-  (s .1 .0, when-told o X (subst (λ (p : Outcome (Unit {0})). WhenDone p (λ _. X)) (s .0) (s .1 .1))),
+  e ∙ ap status (s .0) ∙ status-stop-only o,
+  (s .1 .0, when-stop-only o X (subst (λ (p : Outcome (Unit {0})). WhenDone p (λ _. X)) (s .0) (s .1 .1))),
 )

@@ -1,6 +1,6 @@
 // The listing of a recording.
 ghost use mathlib.Core.Path.{_≡_};
-ghost use Rattle.listing.specs.Nights.{nightOutcome, lengthOf, listAfter, BestNight};
+ghost use Rattle.listing.specs.Listing.{nightOutcome, lengthOf, listAfter, BestNight};
 ghost use Rattle.ffi.specs.Status.{status, behind};
 use crate::status::store;
 

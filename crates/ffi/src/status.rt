@@ -1,11 +1,11 @@
 // What a call returns, and what goes behind a pointer.
 ghost use mathlib.Core.Path.{_≡_};
 ghost use Prim.Native.Nat.{_+_, _*_, _%_};
-ghost use Rattle.slash.specs.Answers.{outcome, toldOutcome, writtenOutcome};
+ghost use Rattle.slash.specs.Answers.{answerOutcome, completionOutcome, writtenOutcome};
 ghost use Rattle.ffi.specs.Status.{status, behind};
 use slash::Answer;
+use slash::Completion;
 use slash::Stop;
-use slash::Told;
 use slash::Written;
 
 // 2^56: so many places can be told.
@@ -19,8 +19,8 @@ fn stop_status(s: Stop) -> u64
 
 // The result of an answer goes behind the pointer.
 pub(crate) fn store(a: Answer, to: &mut u64) -> u64
-    ensures returned { λ r. ⌜ r ≡ status (outcome a) ⌝ }
-    ensures stored { λ _. ⌜ now (to .exit) ≡ behind (outcome a) (now (to .entry)) ⌝ }
+    ensures returned { λ r. ⌜ r ≡ status (answerOutcome a) ⌝ }
+    ensures stored { λ _. ⌜ now (to .exit) ≡ behind (answerOutcome a) (now (to .entry)) ⌝ }
 {
     match a {
         Answer::Done(n) => {
@@ -45,11 +45,11 @@ pub(crate) fn store_word(w: Written, to: &mut u64) -> u64
     }
 }
 
-pub(crate) fn of_vector(r: Told) -> u64
-    ensures { λ n. ⌜ n ≡ status (toldOutcome r) ⌝ }
+pub(crate) fn of_vector(r: Completion) -> u64
+    ensures { λ n. ⌜ n ≡ status (completionOutcome r) ⌝ }
 {
     match r {
-        Told::Done => 0,
-        Told::Stopped(s) => stop_status(s),
+        Completion::Done => 0,
+        Completion::Stopped(s) => stop_status(s),
     }
 }

@@ -2,15 +2,17 @@
 ghost use mathlib.Core.Path.{_≡_};
 ghost use Prim.Native.Nat.{_≤_};
 ghost use Rattle.slash.specs.Formats.{formatOf};
-ghost use Rattle.slash.specs.Answers.{outcome, WhenDone};
-ghost use Rattle.slash.specs.Words.{numberOf, writeNumber, exactRatio, BestFor, BestOf, BestWord};
-ghost use Rattle.arithmetic.specs.Binary.{binaryWord};
+ghost use Rattle.slash.specs.Answers.{answerOutcome, WhenDone};
+ghost use Rattle.slash.specs.Reading.{numberOf};
+ghost use Rattle.slash.specs.Writing.{writeNumber, exactRatio};
+ghost use Rattle.slash.specs.Best.{BestForRatio, BestForSize, BestForValue};
+ghost use Rattle.arithmetic.specs.Operations.{binaryWord};
 ghost use Rattle.arithmetic.specs.Sizes.{binarySize};
 ghost use Rattle.arithmetic.specs.Comparison.{orderNumber, comparisonOutcome, compareWords};
 ghost use Rattle.conversion.specs.Conversion.{convertWord};
-ghost use Rattle.unary.specs.Unary.{exactUnary, unaryWord};
+ghost use Rattle.unary.specs.Operations.{exactUnary, unaryWord};
 ghost use Rattle.euclid.specs.Divisor.{gcdWord};
-ghost use Rattle.euclid.specs.Quotients.{wordQuotients, quotientCount, listed};
+ghost use Rattle.euclid.specs.Quotients.{wordQuotients, quotientCount, quotientsAfter};
 ghost use Rattle.ffi.specs.Status.{status, behind};
 use crate::status::store;
 use crate::status::store_word;
@@ -24,7 +26,7 @@ use slash::Format;
 pub extern "C" fn slash_round(kind: u64, k: u64, n: u64, d: u64, word: &mut u64) -> u64
     ensures returned { λ r. ⌜ r ≡ status (writeNumber (formatOf kind k) (exactRatio n d)) ⌝ }
     ensures stored { λ _. ⌜ now (word .exit) ≡ behind (writeNumber (formatOf kind k) (exactRatio n d)) (now (word .entry)) ⌝ }
-    ensures best { λ _. ⌜ WhenDone (writeNumber (formatOf kind k) (exactRatio n d)) (λ _. BestFor (formatOf kind k) n d (now (word .exit))) ⌝ }
+    ensures best { λ _. ⌜ WhenDone (writeNumber (formatOf kind k) (exactRatio n d)) (λ _. BestForRatio (formatOf kind k) n d (now (word .exit))) ⌝ }
 {
     store_word(slash::round_word(Format { kind: kind, k: k }, n, d), word)
 }
@@ -41,7 +43,7 @@ pub extern "C" fn slash_binary(
 ) -> u64
     ensures returned { λ r. ⌜ r ≡ status (binaryWord (formatOf kind k) code left right) ⌝ }
     ensures stored { λ _. ⌜ now (word .exit) ≡ behind (binaryWord (formatOf kind k) code left right) (now (word .entry)) ⌝ }
-    ensures best { λ _. ⌜ WhenDone (binaryWord (formatOf kind k) code left right) (λ _. BestOf (formatOf kind k) (binarySize code (numberOf (formatOf kind k) left .value) (numberOf (formatOf kind k) right .value)) (now (word .exit))) ⌝ }
+    ensures best { λ _. ⌜ WhenDone (binaryWord (formatOf kind k) code left right) (λ _. BestForSize (formatOf kind k) (binarySize code (numberOf (formatOf kind k) left .value) (numberOf (formatOf kind k) right .value)) (now (word .exit))) ⌝ }
 {
     let f = Format { kind: kind, k: k };
     store_word(arithmetic::binary(f, code, left, right), word)
@@ -52,7 +54,7 @@ pub extern "C" fn slash_binary(
 pub extern "C" fn slash_unary(kind: u64, k: u64, code: u64, operand: u64, word: &mut u64) -> u64
     ensures returned { λ r. ⌜ r ≡ status (unaryWord (formatOf kind k) code operand) ⌝ }
     ensures stored { λ _. ⌜ now (word .exit) ≡ behind (unaryWord (formatOf kind k) code operand) (now (word .entry)) ⌝ }
-    ensures best { λ _. ⌜ WhenDone (unaryWord (formatOf kind k) code operand) (λ _. 3 ≤ code → BestWord (formatOf kind k) (exactUnary code (numberOf (formatOf kind k) operand .value)) (now (word .exit))) ⌝ }
+    ensures best { λ _. ⌜ WhenDone (unaryWord (formatOf kind k) code operand) (λ _. 3 ≤ code → BestForValue (formatOf kind k) (exactUnary code (numberOf (formatOf kind k) operand .value)) (now (word .exit))) ⌝ }
 {
     let f = Format { kind: kind, k: k };
     store_word(unary::unary(f, code, operand), word)
@@ -70,7 +72,7 @@ fn order_number(o: Order) -> u64
 }
 
 fn order_answer(c: Comparison) -> Answer
-    ensures { λ r. ⌜ outcome r ≡ comparisonOutcome c ⌝ }
+    ensures { λ r. ⌜ answerOutcome r ≡ comparisonOutcome c ⌝ }
 {
     match c {
         Comparison::Done(o) => Answer::Done(order_number(o)),
@@ -110,7 +112,7 @@ pub extern "C" fn slash_convert(
 ) -> u64
     ensures returned { λ r. ⌜ r ≡ status (convertWord (formatOf kind k) (formatOf tokind tok) operand) ⌝ }
     ensures stored { λ _. ⌜ now (word .exit) ≡ behind (convertWord (formatOf kind k) (formatOf tokind tok) operand) (now (word .entry)) ⌝ }
-    ensures best { λ _. ⌜ WhenDone (convertWord (formatOf kind k) (formatOf tokind tok) operand) (λ _. BestWord (formatOf tokind tok) (numberOf (formatOf kind k) operand .value) (now (word .exit))) ⌝ }
+    ensures best { λ _. ⌜ WhenDone (convertWord (formatOf kind k) (formatOf tokind tok) operand) (λ _. BestForValue (formatOf tokind tok) (numberOf (formatOf kind k) operand .value) (now (word .exit))) ⌝ }
 {
     let source = Format { kind: kind, k: k };
     let target = Format {
@@ -130,7 +132,7 @@ pub extern "C" fn slash_quotients(
     count: &mut u64,
 ) -> u64
     ensures returned { λ r. ⌜ r ≡ status (quotientCount (formatOf kind k) operand (now (list .entry))) ⌝ }
-    ensures stored { λ _. ⌜ now (list .exit) ≡ listed (wordQuotients (formatOf kind k) operand) (now (list .entry)) ⌝ }
+    ensures stored { λ _. ⌜ now (list .exit) ≡ quotientsAfter (wordQuotients (formatOf kind k) operand) (now (list .entry)) ⌝ }
     ensures counted { λ _. ⌜ now (count .exit) ≡ behind (quotientCount (formatOf kind k) operand (now (list .entry))) (now (count .entry)) ⌝ }
 {
     let f = Format { kind: kind, k: k };

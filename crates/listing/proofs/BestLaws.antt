@@ -1,4 +1,4 @@
--- The breaths of a piece, and demand 3 of it. Assumes nothing.
+-- The breaths of a piece, and demand 3 of it (`best-piece`). Assumes nothing.
 use mathlib.Core.Path.{_≡_, refl, sym, ap, _∙_, subst}
 use mathlib.Core.Bool.{Bool, true, false}
 use mathlib.Core.List.{List, [], _∷_, _++_, append-assoc}
@@ -7,16 +7,17 @@ use native.Mathlib.Omega.{arith}
 use lib.ListN.{length, take, drop}
 use lib.Seq.{take-add, drop-at, length-take-le}
 use Rattle.slash.specs.Answers.{stop, done}
-use Rattle.breaths.specs.Breaths.{addSums, sumsOf}
+use Rattle.breaths.specs.Sums.{addSums, sumsOf}
 use Rattle.breaths.specs.declared.breath.Breath.{Breath}
-use Rattle.breaths.specs.declared.breath.Sums.{Sums}
+use Rattle.breaths.specs.declared.sums.Sums.{Sums}
 use Rattle.breaths.proofs.RatioLaws.{breaths-best, night-best}
 use Rattle.breaths.proofs.SumLaws.{add-none, add-breath}
 use Rattle.recording.specs.Reading.{aBreath, nextOf, breathsFrom, breathsOn}
 use Rattle.recording.specs.declared.line.Entry.{Entry}
 use Rattle.recording.proofs.ReadingLaws.{follows-breath, next-taken, breaths-more, breaths-none}
-use Rattle.listing.specs.Listing.{breathLine, allLine, numbered, withLine}
-use Rattle.listing.specs.Pieces.{endOutcome, Listed, heldBack, stay, onward, pieceFrom, pieceOf, breathsOf, endText, BestPiece}
+use Rattle.listing.specs.Listing.{breathLine, allLine, numbered}
+use Rattle.listing.specs.Nights.{withLine}
+use Rattle.listing.specs.Pieces.{endOutcome, ListedPiece, leftToNext, endsHere, lineThen, pieceFrom, pieceOf, breathsOf, endText, BestPiece}
 use Rattle.listing.specs.declared.night.Night.{Night}
 use Rattle.listing.specs.declared.piece.End.{End}
 use Rattle.listing.specs.declared.piece.End.the-variants.{Open, Closed, Refused, NoNight}
@@ -38,53 +39,53 @@ taken-more steps line bs entry n used =
 -- ---- a piece by these breaths
 
 -- The text is the numbered lines of some breaths, and `all` at the end; and so are the sums.
-record Lists (night : Night) (breaths : List Breath) (l : Listed) : Type 0 where
+record Lists (night : Night) (breaths : List Breath) (l : ListedPiece) : Type 0 where
   pub lines : l .text ≡ numbered (night .breath) breaths ++ endText (l .night .sums) (endOutcome (l .end))
   pub sums : l .night .sums ≡ addSums (night .sums) (sumsOf breaths)
 
-lists-stay : (night : Night) (text : List ℕ) (end : End) → text ≡ endText (night .sums) (endOutcome end) → Lists night [] (stay night text end)
-unfolding stay numbered
-lists-stay night text end e = record { lines = e; sums = add-none (night .sums) }
+lists-endsHere : (night : Night) (text : List ℕ) (end : End) → text ≡ endText (night .sums) (endOutcome end) → Lists night [] (endsHere night text end)
+unfolding endsHere numbered
+lists-endsHere night text end e = record { lines = e; sums = add-none (night .sums) }
 
-held-text : (used : ℕ) (s : Sums) (end : End) → endText s (endOutcome end) ≡ endText s (endOutcome (heldBack used end))
-unfolding heldBack endText
-held-text zero s end = refl
-held-text (suc n) s Open = refl
-held-text (suc n) s Closed = refl
-held-text (suc n) s (Refused x) = refl
-held-text (suc n) s NoNight = refl
+left-text : (used : ℕ) (s : Sums) (end : End) → endText s (endOutcome end) ≡ endText s (endOutcome (leftToNext used end))
+unfolding leftToNext endText
+left-text zero s end = refl
+left-text (suc n) s Open = refl
+left-text (suc n) s Closed = refl
+left-text (suc n) s (Refused x) = refl
+left-text (suc n) s NoNight = refl
 
-lists-onward : (night : Night) (b : Breath) (breaths : List Breath) (used : ℕ) (l : Listed) → Lists (withLine night b) breaths l
-    → Lists night (b ∷ breaths) (onward (breathLine (night .breath) b) used l)
-unfolding onward numbered withLine
-lists-onward night b breaths used l p =
+lists-lineThen : (night : Night) (b : Breath) (breaths : List Breath) (used : ℕ) (l : ListedPiece) → Lists (withLine night b) breaths l
+    → Lists night (b ∷ breaths) (lineThen (breathLine (night .breath) b) used l)
+unfolding lineThen numbered withLine
+lists-lineThen night b breaths used l p =
     let line : List ℕ = breathLine (night .breath) b in
     let rest : List ℕ = numbered (suc (night .breath)) breaths in
     record {
       lines =
           ap (λ (t : List ℕ). line ++ t) (p .lines)
           ∙ sym (append-assoc line rest (endText (l .night .sums) (endOutcome (l .end))))
-          ∙ ap (λ (t : List ℕ). (line ++ rest) ++ t) (held-text used (l .night .sums) (l .end));
+          ∙ ap (λ (t : List ℕ). (line ++ rest) ++ t) (left-text used (l .night .sums) (l .end));
       sums = p .sums ∙ add-breath b breaths (night .sums);
     }
 
-stay-used : (night : Night) (text : List ℕ) (end : End) → 0 ≡ stay night text end .used
-unfolding stay
-stay-used night text end = refl
+endsHere-used : (night : Night) (text : List ℕ) (end : End) → 0 ≡ endsHere night text end .used
+unfolding endsHere
+endsHere-used night text end = refl
 
-onward-used : (line : List ℕ) (used : ℕ) (l : Listed) → used + l .used ≡ onward line used l .used
-unfolding onward
-onward-used line used l = refl
+lineThen-used : (line : List ℕ) (used : ℕ) (l : ListedPiece) → used + l .used ≡ lineThen line used l .used
+unfolding lineThen
+lineThen-used line used l = refl
 
 -- what a piece stays with: it uses no byte, of which there are no breaths
-abbrev ListsUsed : (steps : ℕ) (night : Night) (bs : List ℕ) → Listed → Type 0
+abbrev ListsUsed : (steps : ℕ) (night : Night) (bs : List ℕ) → ListedPiece → Type 0
 ListsUsed steps night bs l = Lists night (breathsFrom steps (night .line) (take (l .used) bs)) l
 
-used-stay : (steps : ℕ) (night : Night) (bs text : List ℕ) (end : End) → text ≡ endText (night .sums) (endOutcome end) → ListsUsed steps night bs (stay night text end)
-used-stay steps night bs text end e =
-    subst (λ (x : List Breath). Lists night x (stay night text end))
-    (sym (breaths-none steps (night .line)) ∙ ap (λ (n : ℕ). breathsFrom steps (night .line) (take n bs)) (stay-used night text end))
-    (lists-stay night text end e)
+used-endsHere : (steps : ℕ) (night : Night) (bs text : List ℕ) (end : End) → text ≡ endText (night .sums) (endOutcome end) → ListsUsed steps night bs (endsHere night text end)
+used-endsHere steps night bs text end e =
+    subst (λ (x : List Breath). Lists night x (endsHere night text end))
+    (sym (breaths-none steps (night .line)) ∙ ap (λ (n : ℕ). breathsFrom steps (night .line) (take n bs)) (endsHere-used night text end))
+    (lists-endsHere night text end e)
 
 open-text : (s : Sums) → [] ≡ endText s (done false)
 unfolding endText
@@ -100,14 +101,14 @@ refused-text s number place = refl
 
 lists : (steps : ℕ) (night : Night) (bs : List ℕ) (last : Bool) (room : ℕ) → ListsUsed steps night bs (pieceFrom steps night bs last room)
 unfolding pieceFrom
-lists zero night bs last room = used-stay zero night bs [] Open (open-text (night .sums))
+lists zero night bs last room = used-endsHere zero night bs [] Open (open-text (night .sums))
 lists (suc steps) night bs last room =
     pieces-case steps night bs last room (ListsUsed (suc steps) night bs)
-    (λ t. used-stay (suc steps) night bs [] Open (open-text (night .sums)))
+    (λ t. used-endsHere (suc steps) night bs [] Open (open-text (night .sums)))
     (λ t entry n. further-lists entry n
     (lists steps (withLine night (entry .breath)) (drop (entry .used) bs) last (room - length (breathLine (night .breath) (entry .breath)))))
-    (λ t n. used-stay (suc steps) night bs (allLine (night .sums)) Closed (closed-text (night .sums)))
-    (λ t number place n. used-stay (suc steps) night bs [] _ (refused-text (night .sums) number place))
+    (λ t n. used-endsHere (suc steps) night bs (allLine (night .sums)) Closed (closed-text (night .sums)))
+    (λ t number place n. used-endsHere (suc steps) night bs [] _ (refused-text (night .sums) number place))
   where
     further-lists : (entry : Entry) → nextOf (night .line) bs ≡ done (aBreath entry)
         → ListsUsed steps (withLine night (entry .breath)) (drop (entry .used) bs)
@@ -115,17 +116,17 @@ lists (suc steps) night bs last room =
         → ListsUsed (suc steps) night bs (further steps night bs last room entry)
     further-lists entry n ih =
         let b : Breath = entry .breath in
-        let l : Listed = pieceFrom steps (withLine night b) (drop (entry .used) bs) last (room - length (breathLine (night .breath) b)) in
+        let l : ListedPiece = pieceFrom steps (withLine night b) (drop (entry .used) bs) last (room - length (breathLine (night .breath) b)) in
         let these : breathsFrom steps (withLine night b .line) (take (l .used) (drop (entry .used) bs)) ≡ breathsFrom steps (suc (night .line)) (take (l .used) (drop (entry .used) bs)) =
         ap (λ (k : ℕ). breathsFrom steps k (take (l .used) (drop (entry .used) bs))) (line-suc night b)
         in
-        subst (λ (x : List Breath). Lists night x (onward (breathLine (night .breath) b) (entry .used) l))
+        subst (λ (x : List Breath). Lists night x (lineThen (breathLine (night .breath) b) (entry .used) l))
         (ap (λ (x : List Breath). b ∷ x) these
         ∙ sym (taken-more steps (night .line) bs entry n (l .used))
-        ∙ ap (λ (m : ℕ). breathsFrom (suc steps) (night .line) (take m bs)) (onward-used (breathLine (night .breath) b) (entry .used) l))
-        (lists-onward night b _ (entry .used) l ih)
+        ∙ ap (λ (m : ℕ). breathsFrom (suc steps) (night .line) (take m bs)) (lineThen-used (breathLine (night .breath) b) (entry .used) l))
+        (lists-lineThen night b _ (entry .used) l ih)
 
-best-lists : (night : Night) (bs : List ℕ) (l : Listed) → ListsUsed (65538 - night .line) night bs l → BestPiece night bs l
+best-lists : (night : Night) (bs : List ℕ) (l : ListedPiece) → ListsUsed (65538 - night .line) night bs l → BestPiece night bs l
 unfolding breathsOf breathsOn
 best-lists night bs l p = record { lines = p .lines; sums = p .sums; each = breaths-best _; all = night-best (l .night .sums) }
 
@@ -135,4 +136,4 @@ best-piece night bs last room =
     best-lists night bs (pieceOf night bs last room)
     (piece-case (ListsUsed (65538 - night .line) night bs) night bs last room
     (λ e. lists (65538 - night .line) night bs last room)
-    (used-stay (65538 - night .line) night bs [] NoNight (refused-text (night .sums) _ _)))
+    (used-endsHere (65538 - night .line) night bs [] NoNight (refused-text (night .sums) _ _)))

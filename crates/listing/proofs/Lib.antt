@@ -3,6 +3,6 @@ pub mod NightLaws
 pub mod ListingLaws
 pub mod PieceLaws
 pub mod BestLaws
-pub mod LoopLaws
+pub mod StepLaws
 pub mod WholeLaws
 pub mod Example

@@ -1,4 +1,6 @@
--- A listing line by line and by its breaths, how long it is, and demand 3 of a night. Assumes nothing.
+-- A listing line by line and by its breaths. Assumes nothing.
+-- `listing-breaths`: it is the numbered lines of the recording's breaths, and then `all` of their sums, or `refused`. `best-night`: demand 3, of a
+-- night. `listing-length`: it has at most 65,536 × 33 + 31 bytes. `listing-steps`: more steps than there can be lines change nothing.
 use mathlib.Core.Path.{_≡_, refl, sym, ap, _∙_, subst}
 use mathlib.Core.List.{List, [], _∷_, _++_, append-assoc}
 use Prim.Native.Nat.{ℕ, zero, suc, _+_, _*_, _^_, _≤_, _<_}
@@ -6,11 +8,12 @@ use native.Mathlib.Omega.{arith}
 use native.Mathlib.Nat.{suc-add}
 use lib.ListN.{length, drop, length-append}
 use Rattle.slash.specs.Answers.{Outcome, stop, done}
-use Rattle.breaths.specs.Breaths.{breathRatio, nightRatio, addSums, sumsOf}
-use Rattle.breaths.specs.Shown.{Proper}
+use Rattle.breaths.specs.Breaths.{breathRatio}
+use Rattle.breaths.specs.Sums.{nightRatio, addSums, sumsOf}
+use Rattle.breaths.specs.Steps.{Proper}
 use Rattle.breaths.specs.declared.breath.Breath.{Breath}
-use Rattle.breaths.specs.declared.breath.Sums.{Sums}
-use Rattle.breaths.proofs.RatioLaws.{breath-shown, night-shown, breaths-best, night-best}
+use Rattle.breaths.specs.declared.sums.Sums.{Sums}
+use Rattle.breaths.proofs.RatioLaws.{breath-proportion, night-proportion, breaths-best, night-best}
 use Rattle.breaths.proofs.SumLaws.{add-none, none-add, add-breath}
 use Rattle.text.specs.Lines.{lineOf, refusedLine}
 use Rattle.text.specs.declared.line.Name.the-variants.{Number, All}
@@ -18,8 +21,8 @@ use Rattle.text.proofs.LineLaws.{number-length, all-length, refused-length}
 use Rattle.recording.specs.Reading.{Coming, aBreath, theEnd, nextOf, breathsFrom, checkFrom, breathsOn, breathsIn, recordingCheck}
 use Rattle.recording.specs.declared.line.Entry.{Entry}
 use Rattle.recording.proofs.ReadingLaws.{follows-breath, follows-stop, breaths-more, breaths-end, breaths-stop, check-more, check-end, check-stop}
-use Rattle.listing.specs.Listing.{breathLine, allLine, begun, withLine, listingFrom, listingOn, listingOf, numbered, lastLine}
-use Rattle.listing.specs.Nights.{BestNight}
+use Rattle.listing.specs.Listing.{breathLine, allLine, listingFrom, listingOn, listingOf, numbered, lastLine, BestNight}
+use Rattle.listing.specs.Nights.{begun, withLine}
 use Rattle.listing.specs.declared.night.Night.{Night}
 use Rattle.listing.proofs.NightLaws.{Real, begun-real, real-next, line-suc}
 
@@ -84,13 +87,13 @@ listing-steps (suc steps) more night bs r e =
 
 -- a breath's number of j + 1 digits
 pub breath-length : (j n : ℕ) (b : Breath) → n < 10 ^ suc j → length (breathLine n b) ≤ 29 + j
-breath-length j n b h = subst (λ (t : List ℕ). length t ≤ 29 + j) (breath-line n b) (number-length j n (breathRatio b) h (breath-shown b))
+breath-length j n b h = subst (λ (t : List ℕ). length t ≤ 29 + j) (breath-line n b) (number-length j n (breathRatio b) h (breath-proportion b))
 
 pub line-length : (night : Night) → Real night → (b : Breath) → length (breathLine (night .breath) b) ≤ 33
 line-length night r b = breath-length 4 (night .breath) b (omega (arith, r .few, r .same))
 
 pub last-length : (s : Sums) → Proper s → length (allLine s) ≤ 31
-last-length s p = subst (λ (t : List ℕ). length t ≤ 31) (all-line s) (all-length (nightRatio s) (night-shown s p))
+last-length s p = subst (λ (t : List ℕ). length t ≤ 31) (all-line s) (all-length (nightRatio s) (night-proportion s p))
 
 -- A listing has at most 65,536 × 33 + 31 bytes.
 lines-length : (steps : ℕ) (night : Night) (bs : List ℕ) → Real night → night .line + steps ≡ 65538 → 2 + length (listingFrom steps night bs) ≤ 33 * steps

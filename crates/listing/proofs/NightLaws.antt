@@ -1,4 +1,6 @@
--- Which nights there are, and one line more. Assumes nothing.
+-- Which nights there are. Assumes nothing.
+-- `real-next`: a breath more, up to line 65,536, makes a night of a recording one again. `night-fits`: its sums have room for any breath whose whole
+-- is below 2^32.
 use mathlib.Core.Path.{_≡_, refl, sym, ap, _∙_}
 use mathlib.Core.Bool.{true, false, _&&_, and-eq-true-iff}
 use Prim.Native.Nat.{suc, _+_, _-_, _*_, _^_, _≤_, _<_}
@@ -8,15 +10,14 @@ use lib.Dec.{eqb, leb}
 use borrow.Author.Tests.{le-leb, leb-true, eq-eqb, eqb-true}
 use Rattle.slash.specs.Answers.{done}
 use Rattle.slash.proofs.AnswerLaws.{done-inj, no-stop}
-use Rattle.breaths.specs.Breaths.{withBreath, addedOutcome, oneMore}
-use Rattle.breaths.specs.Shown.{Proper}
+use Rattle.breaths.specs.Sums.{withBreath, addedOutcome, oneMore}
+use Rattle.breaths.specs.Steps.{Proper}
 use Rattle.breaths.specs.declared.breath.Breath.{Breath}
-use Rattle.breaths.specs.declared.breath.Sums.{Sums}
-use Rattle.breaths.specs.declared.breath.Added.{Added}
-use Rattle.breaths.specs.declared.breath.Added.the-variants.{Done, Full}
+use Rattle.breaths.specs.declared.sums.Sums.{Sums}
+use Rattle.breaths.specs.declared.sums.Added.{Added}
+use Rattle.breaths.specs.declared.sums.Added.the-variants.{Done, Full}
 use Rattle.breaths.proofs.SumLaws.{sum-bounds, sum-proper, more-done}
-use Rattle.listing.specs.Listing.{begun, withLine}
-use Rattle.listing.specs.Pieces.{isNight}
+use Rattle.listing.specs.Nights.{begun, withLine, isNight}
 use Rattle.listing.specs.declared.night.Night.{Night}
 
 -- ---- nights of a recording

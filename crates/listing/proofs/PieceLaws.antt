@@ -1,4 +1,8 @@
--- A listing in pieces: their steps, and that they make the listing. Assumes nothing.
+-- A listing in pieces. Assumes nothing.
+-- `piece-listing`: from a night on, the listing of some bytes and whatever follows them is the piece's text, and then what it goes on with.
+-- `piece-refusing`: a piece that is refused lists nothing. `piece-sound`: from a night of a recording on, a piece uses no more bytes than there are, its text has room, and the
+-- night behind it and its stop are those of a recording. `piece-on`: an open piece with room for a line listed one, or
+-- waits for bytes.
 use mathlib.Core.Path.{_≡_, refl, sym, ap, _∙_, subst}
 use mathlib.Core.Logic.{_⊎_, inl, inr}
 use mathlib.Core.Bool.{Bool, true, false, _||_, and-eq-true-iff, true≢false}
@@ -12,14 +16,15 @@ use lib.Seq.{drop-append-le, drop-drop}
 use borrow.Author.Tests.{leb-true, ltb-true, ltb-false, le-leb, lt-leb}
 use Rattle.slash.specs.Answers.{Outcome, stop, done, Stops}
 use Rattle.breaths.specs.declared.breath.Breath.{Breath}
-use Rattle.text.specs.Parts.{lengthBefore}
+use Rattle.text.specs.Scan.{lengthBefore}
 use Rattle.text.specs.Lines.{refusedLine}
-use Rattle.text.proofs.FindLaws.{before-le}
+use Rattle.text.proofs.ScanLaws.{before-le}
 use Rattle.recording.specs.Reading.{Coming, aBreath, theEnd, nextOf}
 use Rattle.recording.specs.declared.line.Entry.{Entry}
 use Rattle.recording.proofs.ReadingLaws.{Ready, StopAt, follows-breath, follows-stop, next-ready}
-use Rattle.listing.specs.Listing.{breathLine, allLine, withLine, listingFrom, listingOn}
-use Rattle.listing.specs.Pieces.{isNight, endOutcome, Listed, heldBack, stay, onward, isSure, pieceFrom, pieceOf, goesOn, restOf, MakesListing}
+use Rattle.listing.specs.Listing.{breathLine, allLine, listingFrom, listingOn}
+use Rattle.listing.specs.Nights.{withLine, isNight}
+use Rattle.listing.specs.Pieces.{endOutcome, ListedPiece, leftToNext, endsHere, lineThen, isSure, pieceFrom, pieceOf, goesOn, restOf, MakesListing}
 use Rattle.listing.specs.declared.night.Night.{Night}
 use Rattle.listing.specs.declared.piece.End.{End}
 use Rattle.listing.specs.declared.piece.End.the-variants.{Open, Closed, Refused, NoNight}
@@ -85,25 +90,25 @@ unsure bs false room h e = go (decLe 33 (length bs))
 
 module _ (steps : ℕ) (night : Night) (bs : List ℕ) (last : Bool) (room : ℕ) where
   -- a breath's line, and what is listed behind it
-  abbrev pub further : Entry → Listed
+  abbrev pub further : Entry → ListedPiece
   further entry =
-      onward (breathLine (night .breath) (entry .breath)) (entry .used)
+      lineThen (breathLine (night .breath) (entry .breath)) (entry .used)
       (pieceFrom steps (withLine night (entry .breath)) (drop (entry .used) bs) last (room - length (breathLine (night .breath) (entry .breath))))
 
   -- a stop at the next line
-  abbrev pub refusedWith : (number place : ℕ) → Listed
-  refusedWith number place = stay night [] (Refused (record { number = number; place = place }))
+  abbrev pub refusedWith : (number place : ℕ) → ListedPiece
+  refusedWith number place = endsHere night [] (Refused (record { number = number; place = place }))
 
-  surely : Outcome Coming → Listed
+  surely : Outcome Coming → ListedPiece
   surely (done (aBreath entry)) = further entry
-  surely (done theEnd) = stay night (allLine (night .sums)) Closed
+  surely (done theEnd) = endsHere night (allLine (night .sums)) Closed
   surely (stop number place) = refusedWith number place
 
-  pieces-step : (t : Bool) → isSure bs last room ≡ t → pieceFrom (suc steps) night bs last room ≡ elim t [ true ↦ surely (nextOf (night .line) bs) | false ↦ stay night [] Open ]
+  pieces-step : (t : Bool) → isSure bs last room ≡ t → pieceFrom (suc steps) night bs last room ≡ elim t [ true ↦ surely (nextOf (night .line) bs) | false ↦ endsHere night [] Open ]
   unfolding pieceFrom surely
-  pieces-step t e = ap (λ (y : Bool). elim y as (λ z. Listed) [ true ↦ surely (nextOf (night .line) bs) | false ↦ stay night [] Open ]) e
+  pieces-step t e = ap (λ (y : Bool). elim y as (λ z. ListedPiece) [ true ↦ surely (nextOf (night .line) bs) | false ↦ endsHere night [] Open ]) e
 
-  pub pieces-open : isSure bs last room ≡ false → pieceFrom (suc steps) night bs last room ≡ stay night [] Open
+  pub pieces-open : isSure bs last room ≡ false → pieceFrom (suc steps) night bs last room ≡ endsHere night [] Open
   pieces-open f = pieces-step false f
 
   module _ (sure : isSure bs last room ≡ true) where
@@ -114,7 +119,7 @@ module _ (steps : ℕ) (night : Night) (bs : List ℕ) (last : Bool) (room : ℕ
     unfolding surely
     pieces-more entry e = surely-is (done (aBreath entry)) e
 
-    pub pieces-end : nextOf (night .line) bs ≡ done theEnd → pieceFrom (suc steps) night bs last room ≡ stay night (allLine (night .sums)) Closed
+    pub pieces-end : nextOf (night .line) bs ≡ done theEnd → pieceFrom (suc steps) night bs last room ≡ endsHere night (allLine (night .sums)) Closed
     unfolding surely
     pieces-end e = surely-is (done theEnd) e
 
@@ -123,9 +128,9 @@ module _ (steps : ℕ) (night : Night) (bs : List ℕ) (last : Bool) (room : ℕ
     pieces-stop {number} {place} e = surely-is (stop number place) e
 
   -- what holds in each case holds of the piece
-  pub pieces-case : (P : Listed → Type 0) → (isSure bs last room ≡ false → P (stay night [] Open))
+  pub pieces-case : (P : ListedPiece → Type 0) → (isSure bs last room ≡ false → P (endsHere night [] Open))
       → (isSure bs last room ≡ true → (entry : Entry) → nextOf (night .line) bs ≡ done (aBreath entry) → P (further entry))
-      → (isSure bs last room ≡ true → nextOf (night .line) bs ≡ done theEnd → P (stay night (allLine (night .sums)) Closed))
+      → (isSure bs last room ≡ true → nextOf (night .line) bs ≡ done theEnd → P (endsHere night (allLine (night .sums)) Closed))
       → (isSure bs last room ≡ true → (number place : ℕ) → nextOf (night .line) bs ≡ stop number place → P (refusedWith number place))
       → P (pieceFrom (suc steps) night bs last room)
   pieces-case P opened more ended stopped = go (isSure bs last room) refl (nextOf (night .line) bs) refl
@@ -141,13 +146,13 @@ pub piece-is : (night : Night) (bs : List ℕ) (last : Bool) (room : ℕ) → is
 unfolding pieceOf
 piece-is night bs last room e = rw (e) refl
 
-none-is : (night : Night) (bs : List ℕ) (last : Bool) (room : ℕ) → isNight night ≡ false → pieceOf night bs last room ≡ stay night [] NoNight
+none-is : (night : Night) (bs : List ℕ) (last : Bool) (room : ℕ) → isNight night ≡ false → pieceOf night bs last room ≡ endsHere night [] NoNight
 unfolding pieceOf
 none-is night bs last room e = rw (e) refl
 
 -- what holds of every piece of a night, and where the night is none
-pub piece-case : (P : Listed → Type 0) (night : Night) (bs : List ℕ) (last : Bool) (room : ℕ)
-    → (isNight night ≡ true → P (pieceFrom (65538 - night .line) night bs last room)) → P (stay night [] NoNight)
+pub piece-case : (P : ListedPiece → Type 0) (night : Night) (bs : List ℕ) (last : Bool) (room : ℕ)
+    → (isNight night ≡ true → P (pieceFrom (65538 - night .line) night bs last room)) → P (endsHere night [] NoNight)
     → P (pieceOf night bs last room)
 piece-case P night bs last room real none = go (isNight night) refl
   where
@@ -158,50 +163,50 @@ piece-case P night bs last room real none = go (isNight night) refl
 -- ---- a piece that is refused
 
 -- It lists nothing, uses nothing, and its night is the one it began with.
-pub record Refusing (start : Night) (l : Listed) : Type 0 where
+pub record Refusing (start : Night) (l : ListedPiece) : Type 0 where
   pub text : l .text ≡ []
   pub used : l .used ≡ 0
   pub night : l .night ≡ start
 
-held-not : (used : ℕ) (end : End) → 1 ≤ used → Stops (endOutcome (heldBack used end)) → ⊥
-unfolding heldBack
+held-not : (used : ℕ) (end : End) → 1 ≤ used → Stops (endOutcome (leftToNext used end)) → ⊥
+unfolding leftToNext
 held-not zero end h e = absurd (omega arith)
 held-not (suc n) Open h e = e
 held-not (suc n) Closed h e = e
 held-not (suc n) (Refused s) h e = e
 held-not (suc n) NoNight h e = e
 
-abbrev IfStops : Night → Listed → Type 0
+abbrev IfStops : Night → ListedPiece → Type 0
 IfStops night l = Stops (endOutcome (l .end)) → Refusing night l
 
-refusing-stay : (night : Night) (end : End) → IfStops night (stay night [] end)
-unfolding stay
-refusing-stay night end h = record { text = refl; used = refl; night = refl }
+refusing-endsHere : (night : Night) (end : End) → IfStops night (endsHere night [] end)
+unfolding endsHere
+refusing-endsHere night end h = record { text = refl; used = refl; night = refl }
 
-closed-stay : (night : Night) (text : List ℕ) → IfStops night (stay night text Closed)
-unfolding stay
-closed-stay night text h = absurd h
+closed-endsHere : (night : Night) (text : List ℕ) → IfStops night (endsHere night text Closed)
+unfolding endsHere
+closed-endsHere night text h = absurd h
 
-refusing-onward : (night : Night) (line : List ℕ) (used : ℕ) (l : Listed) → 1 ≤ used → IfStops night (onward line used l)
-unfolding onward
-refusing-onward night line used l some h = absurd (held-not used (l .end) some h)
+refusing-lineThen : (night : Night) (line : List ℕ) (used : ℕ) (l : ListedPiece) → 1 ≤ used → IfStops night (lineThen line used l)
+unfolding lineThen
+refusing-lineThen night line used l some h = absurd (held-not used (l .end) some h)
 
 refusing : (steps : ℕ) (night : Night) (bs : List ℕ) (last : Bool) (room : ℕ) → IfStops night (pieceFrom steps night bs last room)
 unfolding pieceFrom
-refusing zero night bs last room = refusing-stay night Open
+refusing zero night bs last room = refusing-endsHere night Open
 refusing (suc steps) night bs last room =
     pieces-case steps night bs last room (IfStops night)
-    (λ t. refusing-stay night Open)
+    (λ t. refusing-endsHere night Open)
     (λ t entry n. further-refusing t entry n)
-    (λ t n. closed-stay night (allLine (night .sums)))
-    (λ t number place n. refusing-stay night _)
+    (λ t n. closed-endsHere night (allLine (night .sums)))
+    (λ t number place n. refusing-endsHere night _)
   where
     further-refusing : isSure bs last room ≡ true → (entry : Entry) → nextOf (night .line) bs ≡ done (aBreath entry) → IfStops night (further steps night bs last room entry)
-    further-refusing t entry n = refusing-onward night _ (entry .used) _ (omega (arith, follows-breath (night .line) bs entry n .1 .ended))
+    further-refusing t entry n = refusing-lineThen night _ (entry .used) _ (omega (arith, follows-breath (night .line) bs entry n .1 .ended))
 
 pub piece-refusing : (night : Night) (bs : List ℕ) (last : Bool) (room : ℕ) → Stops (endOutcome (pieceOf night bs last room .end)) → pieceOf night bs last room .text ≡ []
 piece-refusing night bs last room h =
-    piece-case (IfStops night) night bs last room (λ e. refusing (65538 - night .line) night bs last room) (refusing-stay night NoNight) h .text
+    piece-case (IfStops night) night bs last room (λ e. refusing (65538 - night .line) night bs last room) (refusing-endsHere night NoNight) h .text
 
 -- ---- the pieces make the listing
 
@@ -209,25 +214,25 @@ open-rest : (night : Night) (bs : List ℕ) (steps : ℕ) → steps ≡ 65538 - 
 unfolding goesOn listingOn
 open-rest night bs steps e = ap (λ (k : ℕ). listingFrom k night bs) e
 
-refusing-rest : (night : Night) (l : Listed) (bs more : List ℕ) → Refusing night l → goesOn (done false) night (bs ++ more) ≡ l .text ++ goesOn (done false) (l .night) (drop (l .used) bs ++ more)
+refusing-rest : (night : Night) (l : ListedPiece) (bs more : List ℕ) → Refusing night l → goesOn (done false) night (bs ++ more) ≡ l .text ++ goesOn (done false) (l .night) (drop (l .used) bs ++ more)
 refusing-rest night l bs more r = rw (r .text, r .used, r .night) refl
 
--- what a piece goes on with is what its last step does: a stop that it holds back is the next piece's
-onward-rest : (x : List ℕ) (line : List ℕ) (used : ℕ) (l : Listed) (bs more : List ℕ) → x ≡ l .text ++ restOf l (drop used bs) more
+-- what a piece goes on with is what its last step does: a stop that it leaves is the next piece's
+lineThen-rest : (x : List ℕ) (line : List ℕ) (used : ℕ) (l : ListedPiece) (bs more : List ℕ) → x ≡ l .text ++ restOf l (drop used bs) more
     → (Stops (endOutcome (l .end)) → x ≡ l .text ++ goesOn (done false) (l .night) (drop (l .used) (drop used bs) ++ more))
-    → line ++ x ≡ onward line used l .text ++ restOf (onward line used l) bs more
-unfolding restOf onward heldBack
-onward-rest x line used l bs more e held =
+    → line ++ x ≡ lineThen line used l .text ++ restOf (lineThen line used l) bs more
+unfolding restOf lineThen leftToNext
+lineThen-rest x line used l bs more e held =
     ap (λ (u : List ℕ). line ++ u)
-    (go used (l .end) e held ∙ ap (λ (u : List ℕ). l .text ++ goesOn (endOutcome (heldBack used (l .end))) (l .night) (u ++ more)) (drop-drop (l .used) used bs))
-    ∙ sym (append-assoc line (l .text) (restOf (onward line used l) bs more))
+    (go used (l .end) e held ∙ ap (λ (u : List ℕ). l .text ++ goesOn (endOutcome (leftToNext used (l .end))) (l .night) (u ++ more)) (drop-drop (l .used) used bs))
+    ∙ sym (append-assoc line (l .text) (restOf (lineThen line used l) bs more))
   where
     left : List ℕ
     left = drop (l .used) (drop used bs) ++ more
 
     go : (n : ℕ) (end : End) → x ≡ l .text ++ goesOn (endOutcome end) (l .night) left
         → (Stops (endOutcome end) → x ≡ l .text ++ goesOn (done false) (l .night) left)
-        → x ≡ l .text ++ goesOn (endOutcome (heldBack n end)) (l .night) left
+        → x ≡ l .text ++ goesOn (endOutcome (leftToNext n end)) (l .night) left
     go zero end e h = e
     go (suc n) Open e h = e
     go (suc n) Closed e h = e
@@ -235,20 +240,20 @@ onward-rest x line used l bs more e held =
     go (suc n) NoNight e h = h tt
 
 module _ (more : List ℕ) (last : Bool) (ends : last ≡ true → more ≡ []) where
-  abbrev Goes : (bs : List ℕ) → List ℕ → Listed → Type 0
+  abbrev Goes : (bs : List ℕ) → List ℕ → ListedPiece → Type 0
   Goes bs text l = text ≡ l .text ++ restOf l bs more
 
-  goes-open : (night : Night) (bs text : List ℕ) → text ≡ goesOn (done false) night (bs ++ more) → Goes bs text (stay night [] Open)
-  unfolding stay restOf
+  goes-open : (night : Night) (bs text : List ℕ) → text ≡ goesOn (done false) night (bs ++ more) → Goes bs text (endsHere night [] Open)
+  unfolding endsHere restOf
   goes-open night bs text e = e
 
-  goes-closed : (night : Night) (bs text : List ℕ) → Goes bs text (stay night text Closed)
-  unfolding stay restOf goesOn
+  goes-closed : (night : Night) (bs text : List ℕ) → Goes bs text (endsHere night text Closed)
+  unfolding endsHere restOf goesOn
   goes-closed night bs text = sym (append-nil text)
 
   goes-stopped : (night : Night) (bs text : List ℕ) (number place : ℕ) → text ≡ refusedLine number place
-      → Goes bs text (stay night [] (Refused (record { number = number; place = place })))
-  unfolding stay restOf goesOn
+      → Goes bs text (endsHere night [] (Refused (record { number = number; place = place })))
+  unfolding endsHere restOf goesOn
   goes-stopped night bs text number place e = e
 
   goes : (steps : ℕ) (night : Night) (bs : List ℕ) (room : ℕ) → Real night → night .line + steps ≡ 65538
@@ -260,7 +265,7 @@ module _ (more : List ℕ) (last : Bool) (ends : last ≡ true → more ≡ []) 
       (λ t entry n. further-goes t entry n
       (goes steps (withLine night (entry .breath)) (drop (entry .used) bs) (room - length (breathLine (night .breath) (entry .breath)))
       (follows-real night r bs entry n) (omega (arith, line-suc night (entry .breath), e))))
-      (λ t n. subst (λ (u : List ℕ). Goes bs u (stay night (allLine (night .sums)) Closed)) (sym (listing-end steps night (bs ++ more) (after t ∙ n))) (goes-closed night bs (allLine (night .sums))))
+      (λ t n. subst (λ (u : List ℕ). Goes bs u (endsHere night (allLine (night .sums)) Closed)) (sym (listing-end steps night (bs ++ more) (after t ∙ n))) (goes-closed night bs (allLine (night .sums))))
       (λ t number place n. goes-stopped night bs _ number place (listing-stop steps night (bs ++ more) (after t ∙ n)))
     where
       after : isSure bs last room ≡ true → nextOf (night .line) (bs ++ more) ≡ nextOf (night .line) bs
@@ -274,14 +279,14 @@ module _ (more : List ℕ) (last : Bool) (ends : last ≡ true → more ≡ []) 
           let line : List ℕ = breathLine (night .breath) (entry .breath) in
           let behind : Night = withLine night (entry .breath) in
           let rest : List ℕ = drop (entry .used) bs in
-          let l : Listed = pieceFrom steps behind rest last (room - length line) in
+          let l : ListedPiece = pieceFrom steps behind rest last (room - length line) in
           let number : steps ≡ 65538 - behind .line = omega (arith, line-suc night (entry .breath), e) in
           let held : Stops (endOutcome (l .end)) → listingFrom steps behind (rest ++ more) ≡ l .text ++ goesOn (done false) (l .night) (drop (l .used) rest ++ more) =
           λ h. open-rest behind (rest ++ more) steps number ∙ refusing-rest behind l rest more (refusing steps behind rest last (room - length line) h)
           in
           listing-more steps night (bs ++ more) entry (after t ∙ n)
           ∙ ap (λ (u : List ℕ). line ++ listingFrom steps behind u) (drop-append-le (entry .used) bs more (follows-breath (night .line) bs entry n .1 .within))
-          ∙ onward-rest (listingFrom steps behind (rest ++ more)) line (entry .used) l bs more ih held
+          ∙ lineThen-rest (listingFrom steps behind (rest ++ more)) line (entry .used) l bs more ih held
 
 -- From a night on, the listing of some bytes and whatever follows them is the piece's text, and then what it goes on with: where the piece is
 -- open, the listing from its night of the bytes that it didn't use and whatever follows them; where it is refused, the line of the stop; else
@@ -305,45 +310,45 @@ StopIn night (stop number place) = StopAt (night .line) number place
 StopIn night (done whole) = Unit {0}
 
 -- It uses no more bytes than there are, its text has room, and the night behind it and its end are those of a recording.
-pub record Sound (bs : List ℕ) (room : ℕ) (l : Listed) : Type 0 where
+pub record Sound (bs : List ℕ) (room : ℕ) (l : ListedPiece) : Type 0 where
   pub used : l .used ≤ length bs
   pub fits : length (l .text) ≤ room
   pub real : Real (l .night)
   pub stops : StopIn (l .night) (endOutcome (l .end))
 
-sound-stay : (bs : List ℕ) (room : ℕ) (night : Night) (text : List ℕ) (end : End) → Real night → length text ≤ room → StopIn night (endOutcome end) → Sound bs room (stay night text end)
-unfolding stay
-sound-stay bs room night text end r h s = record { used = omega arith; fits = h; real = r; stops = s }
+sound-endsHere : (bs : List ℕ) (room : ℕ) (night : Night) (text : List ℕ) (end : End) → Real night → length text ≤ room → StopIn night (endOutcome end) → Sound bs room (endsHere night text end)
+unfolding endsHere
+sound-endsHere bs room night text end r h s = record { used = omega arith; fits = h; real = r; stops = s }
 
-held-stops : (night : Night) (used : ℕ) (end : End) → StopIn night (endOutcome end) → StopIn night (endOutcome (heldBack used end))
-unfolding heldBack
-held-stops night zero end s = s
-held-stops night (suc n) Open s = tt
-held-stops night (suc n) Closed s = tt
-held-stops night (suc n) (Refused x) s = tt
-held-stops night (suc n) NoNight s = tt
+left-stops : (night : Night) (used : ℕ) (end : End) → StopIn night (endOutcome end) → StopIn night (endOutcome (leftToNext used end))
+unfolding leftToNext
+left-stops night zero end s = s
+left-stops night (suc n) Open s = tt
+left-stops night (suc n) Closed s = tt
+left-stops night (suc n) (Refused x) s = tt
+left-stops night (suc n) NoNight s = tt
 
-sound-onward : (bs : List ℕ) (room : ℕ) (line : List ℕ) (used : ℕ) (l : Listed) → used ≤ length bs → length line ≤ room
-    → Sound (drop used bs) (room - length line) l → Sound bs room (onward line used l)
-unfolding onward
-sound-onward bs room line used l u h s =
+sound-lineThen : (bs : List ℕ) (room : ℕ) (line : List ℕ) (used : ℕ) (l : ListedPiece) → used ≤ length bs → length line ≤ room
+    → Sound (drop used bs) (room - length line) l → Sound bs room (lineThen line used l)
+unfolding lineThen
+sound-lineThen bs room line used l u h s =
     record {
       used = omega (arith, s .used, length-drop used bs);
       fits = omega (arith, s .fits, length-append line (l .text));
       real = s .real;
-      stops = held-stops (l .night) used (l .end) (s .stops);
+      stops = left-stops (l .night) used (l .end) (s .stops);
     }
 
 sound : (steps : ℕ) (night : Night) (bs : List ℕ) (last : Bool) (room : ℕ) → Real night → Sound bs room (pieceFrom steps night bs last room)
 unfolding pieceFrom
-sound zero night bs last room r = sound-stay bs room night [] Open r (omega arith) tt
+sound zero night bs last room r = sound-endsHere bs room night [] Open r (omega arith) tt
 sound (suc steps) night bs last room r =
     pieces-case steps night bs last room (Sound bs room)
-    (λ t. sound-stay bs room night [] Open r (omega arith) tt)
+    (λ t. sound-endsHere bs room night [] Open r (omega arith) tt)
     (λ t entry n. further-sound t entry n
     (sound steps (withLine night (entry .breath)) (drop (entry .used) bs) last (room - length (breathLine (night .breath) (entry .breath))) (follows-real night r bs entry n)))
-    (λ t n. sound-stay bs room night (allLine (night .sums)) Closed r (omega (arith, sure-room bs last room t, last-length (night .sums) (r .proper))) tt)
-    (λ t number place n. sound-stay bs room night [] _ r (omega arith) (follows-stop (night .line) bs n))
+    (λ t n. sound-endsHere bs room night (allLine (night .sums)) Closed r (omega (arith, sure-room bs last room t, last-length (night .sums) (r .proper))) tt)
+    (λ t number place n. sound-endsHere bs room night [] _ r (omega arith) (follows-stop (night .line) bs n))
   where
     further-sound : isSure bs last room ≡ true → (entry : Entry) → nextOf (night .line) bs ≡ done (aBreath entry)
         → Sound (drop (entry .used) bs) (room - length (breathLine (night .breath) (entry .breath)))
@@ -352,7 +357,7 @@ sound (suc steps) night bs last room r =
     further-sound t entry n ih =
         let line : List ℕ = breathLine (night .breath) (entry .breath) in
         let few : length line ≤ room = omega (arith, sure-room bs last room t, line-length night r (entry .breath)) in
-        sound-onward bs room line (entry .used) _ (follows-breath (night .line) bs entry n .1 .within) few ih
+        sound-lineThen bs room line (entry .used) _ (follows-breath (night .line) bs entry n .1 .within) few ih
 
 pub piece-sound : (night : Night) (bs : List ℕ) (last : Bool) (room : ℕ) → isNight night ≡ true → Sound bs room (pieceOf night bs last room)
 piece-sound night bs last room e =
@@ -361,38 +366,38 @@ piece-sound night bs last room e =
 -- ---- that a piece goes on
 
 -- no line number falls
-abbrev Later : Night → Listed → Type 0
+abbrev Later : Night → ListedPiece → Type 0
 Later night l = night .line ≤ l .night .line
 
-later-stay : (night : Night) (text : List ℕ) (end : End) → Later night (stay night text end)
-unfolding stay
-later-stay night text end = omega arith
+later-endsHere : (night : Night) (text : List ℕ) (end : End) → Later night (endsHere night text end)
+unfolding endsHere
+later-endsHere night text end = omega arith
 
-later-onward : (night : Night) (line : List ℕ) (used : ℕ) (l : Listed) → Later night l → Later night (onward line used l)
-unfolding onward
-later-onward night line used l h = h
+later-lineThen : (night : Night) (line : List ℕ) (used : ℕ) (l : ListedPiece) → Later night l → Later night (lineThen line used l)
+unfolding lineThen
+later-lineThen night line used l h = h
 
 later : (steps : ℕ) (night : Night) (bs : List ℕ) (last : Bool) (room : ℕ) → Later night (pieceFrom steps night bs last room)
 unfolding pieceFrom
-later zero night bs last room = later-stay night [] Open
+later zero night bs last room = later-endsHere night [] Open
 later (suc steps) night bs last room =
     pieces-case steps night bs last room (Later night)
-    (λ t. later-stay night [] Open)
+    (λ t. later-endsHere night [] Open)
     (λ t entry n. further-later entry
     (later steps (withLine night (entry .breath)) (drop (entry .used) bs) last (room - length (breathLine (night .breath) (entry .breath)))))
-    (λ t n. later-stay night (allLine (night .sums)) Closed)
-    (λ t number place n. later-stay night [] _)
+    (λ t n. later-endsHere night (allLine (night .sums)) Closed)
+    (λ t number place n. later-endsHere night [] _)
   where
     further-later : (entry : Entry)
         → Later (withLine night (entry .breath)) (pieceFrom steps (withLine night (entry .breath)) (drop (entry .used) bs) last (room - length (breathLine (night .breath) (entry .breath))))
         → Later night (further steps night bs last room entry)
-    further-later entry ih = later-onward night _ (entry .used) _ (omega (arith, ih, line-suc night (entry .breath)))
+    further-later entry ih = later-lineThen night _ (entry .used) _ (omega (arith, ih, line-suc night (entry .breath)))
 
 -- An open piece with room for a line listed a line, and used bytes; or it used none, and waits for bytes.
 abbrev pub GoesOn : (line : ℕ) (bs : List ℕ) (last : Bool) (used line′ : ℕ) → Type 0
 GoesOn line bs last used line′ = ((line < line′) × (1 ≤ used)) ⊎ ((used ≡ 0) × Waits bs last)
 
-abbrev IfOpen : (night : Night) (bs : List ℕ) (last : Bool) → Listed → Type 0
+abbrev IfOpen : (night : Night) (bs : List ℕ) (last : Bool) → ListedPiece → Type 0
 IfOpen night bs last l = l .end ≡ Open → GoesOn (night .line) bs last (l .used) (l .night .line)
 
 -- an end that isn't open
@@ -403,17 +408,17 @@ NotOpen (Refused s) = Unit {0}
 NotOpen NoNight = Unit {0}
 
 module _ (night : Night) (bs : List ℕ) (last : Bool) where
-  waits : Waits bs last → IfOpen night bs last (stay night [] Open)
-  unfolding stay
+  waits : Waits bs last → IfOpen night bs last (endsHere night [] Open)
+  unfolding endsHere
   waits w o = inr (refl, w)
 
-  ends : (text : List ℕ) (end : End) → NotOpen end → IfOpen night bs last (stay night text end)
-  unfolding stay
+  ends : (text : List ℕ) (end : End) → NotOpen end → IfOpen night bs last (endsHere night text end)
+  unfolding endsHere
   ends text end f o = absurd (subst NotOpen o f)
 
-  more-onward : (line : List ℕ) (used : ℕ) (l : Listed) → 1 ≤ used → night .line < l .night .line → IfOpen night bs last (onward line used l)
-  unfolding onward
-  more-onward line used l some h o = inl (h, omega arith)
+  more-lineThen : (line : List ℕ) (used : ℕ) (l : ListedPiece) → 1 ≤ used → night .line < l .night .line → IfOpen night bs last (lineThen line used l)
+  unfolding lineThen
+  more-lineThen line used l some h o = inl (h, omega arith)
 
 goes-on : (steps : ℕ) (night : Night) (bs : List ℕ) (last : Bool) (room : ℕ) → 33 ≤ room → IfOpen night bs last (pieceFrom (suc steps) night bs last room)
 goes-on steps night bs last room h =
@@ -427,7 +432,7 @@ goes-on steps night bs last room h =
     further-on entry n =
         let b : Breath = entry .breath in
         let grows = later steps (withLine night b) (drop (entry .used) bs) last (room - length (breathLine (night .breath) b)) in
-        more-onward night bs last _ (entry .used) _ (omega (arith, follows-breath (night .line) bs entry n .1 .ended)) (omega (arith, grows, line-suc night b))
+        more-lineThen night bs last _ (entry .used) _ (omega (arith, follows-breath (night .line) bs entry n .1 .ended)) (omega (arith, grows, line-suc night b))
 
 pub piece-on : (night : Night) (bs : List ℕ) (last : Bool) (room : ℕ) → isNight night ≡ true → 33 ≤ room → IfOpen night bs last (pieceOf night bs last room)
 piece-on night bs last room e h =

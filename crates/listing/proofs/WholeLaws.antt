@@ -1,39 +1,39 @@
--- The whole of a recording in one piece, and what `list` answers. Assumes nothing.
+-- The whole of a recording in one piece, and what `list` answers (`list-done`, `list-stopped`). Assumes nothing.
 use mathlib.Core.Path.{_≡_, refl, sym, ap, _∙_}
 use mathlib.Core.Bool.{true}
 use mathlib.Core.List.{List, _++_}
 use Prim.Native.Nat.{ℕ, zero, suc, _+_, _-_, _*_, _≤_}
 use native.Mathlib.Omega.{arith}
 use lib.ListN.{length, drop}
-use Rattle.slash.specs.Answers.{Outcome, stop, done, _then_, toldOutcome}
+use Rattle.slash.specs.Answers.{Outcome, stop, done, _then_, completionOutcome}
 use Rattle.slash.specs.declared.answer.Stop.{Stop}
-use Rattle.slash.specs.declared.answer.Told.{Told}
-use Rattle.slash.specs.declared.answer.Told.the-variants as Told
+use Rattle.slash.specs.declared.answer.Completion.{Completion}
+use Rattle.slash.specs.declared.answer.Completion.the-variants as Completion
 use Rattle.slash.proofs.AnswerLaws.{no-stop}
 use Rattle.breaths.specs.declared.breath.Breath.{Breath}
 use Rattle.text.specs.Stores.{atStart}
 use Rattle.recording.specs.Reading.{Coming, aBreath, theEnd, nextOf, checkFrom, recordingCheck}
 use Rattle.recording.proofs.ReadingLaws.{check-more, check-stop}
-use Rattle.listing.specs.Listing.{breathLine, allLine, begun, withLine, listingFrom, listingOn, listingOf}
-use Rattle.listing.specs.Nights.{nightOutcome, lengthOf, listAfter, BestNight}
-use Rattle.listing.specs.Pieces.{Listed, stay, onward, isSure, pieceFrom, pieceOf, answerOf}
+use Rattle.listing.specs.Listing.{breathLine, allLine, listingFrom, listingOn, listingOf, nightOutcome, lengthOf, listAfter, BestNight}
+use Rattle.listing.specs.Nights.{begun, withLine}
+use Rattle.listing.specs.Pieces.{ListedPiece, endsHere, lineThen, isSure, pieceFrom, pieceOf, answerOf}
 use Rattle.listing.specs.declared.night.Night.{Night}
 use Rattle.listing.specs.declared.piece.End.the-variants.{Closed}
 use Rattle.listing.specs.declared.piece.Piece.{Piece}
 use Rattle.listing.proofs.NightLaws.{Real, real-night, begun-real, line-suc}
 use Rattle.listing.proofs.ListingLaws.{follows-real, listing-more, listing-end, breath-length, line-length, best-night}
 use Rattle.listing.proofs.PieceLaws.{sure-last, pieces-more, pieces-end, piece-is}
-use Rattle.listing.proofs.LoopLaws.{Answers}
+use Rattle.listing.proofs.StepLaws.{Answers}
 
 -- ---- the whole of a recording in one piece, where no line stops it
 
-stay-text : (night : Night) (text : List ℕ) → stay night text Closed .text ≡ text
-unfolding stay
-stay-text night text = refl
+endsHere-text : (night : Night) (text : List ℕ) → endsHere night text Closed .text ≡ text
+unfolding endsHere
+endsHere-text night text = refl
 
-onward-text : (line : List ℕ) (used : ℕ) (l : Listed) → onward line used l .text ≡ line ++ l .text
-unfolding onward
-onward-text line used l = refl
+lineThen-text : (line : List ℕ) (used : ℕ) (l : ListedPiece) → lineThen line used l .text ≡ line ++ l .text
+unfolding lineThen
+lineThen-text line used l = refl
 
 -- where the next line has room, and so have those behind it
 whole-step : (steps : ℕ) (night : Night) (bs : List ℕ) (room most : ℕ) → Real night → 33 ≤ room
@@ -57,13 +57,13 @@ whole-step steps night bs room most r h short good ih = go (nextOf (night .line)
         let still : checkFrom steps (behind .line) rest ≡ done tt =
         ap (λ (k : ℕ). checkFrom steps k rest) (line-suc night b) ∙ sym (check-more steps (night .line) bs entry n) ∙ good
         in
-        ap (λ (l : Listed). l .text) (pieces-more steps night bs true room sure entry n)
-        ∙ onward-text line (entry .used) (pieceFrom steps behind rest true left)
+        ap (λ (l : ListedPiece). l .text) (pieces-more steps night bs true room sure entry n)
+        ∙ lineThen-text line (entry .used) (pieceFrom steps behind rest true left)
         ∙ ap (λ (u : List ℕ). line ++ u) (ih behind rest left (follows-real night r bs entry n) (line-suc night b) (omega (arith, short b)) still)
         ∙ sym (listing-more steps night bs entry n)
     go (done theEnd) n =
-        ap (λ (l : Listed). l .text) (pieces-end steps night bs true room sure n)
-        ∙ stay-text night (allLine (night .sums))
+        ap (λ (l : ListedPiece). l .text) (pieces-end steps night bs true room sure n)
+        ∙ endsHere-text night (allLine (night .sums))
         ∙ sym (listing-end steps night bs n)
     go (stop number place) n = absurd (no-stop (sym (check-stop steps (night .line) bs n) ∙ good))
 
@@ -80,7 +80,7 @@ whole (suc steps) night bs room r e h good =
 whole-listing : (bs : List ℕ) → recordingCheck bs ≡ done tt → pieceOf begun bs true 2162719 .text ≡ listingOf bs
 unfolding listingOf listingOn recordingCheck
 whole-listing bs good =
-    ap (λ (l : Listed). l .text) (piece-is begun bs true 2162719 (real-night begun begun-real))
+    ap (λ (l : ListedPiece). l .text) (piece-is begun bs true 2162719 (real-night begun begun-real))
     ∙ whole-step 65536 begun bs 2162719 29 begun-real (omega arith) (λ b. breath-length 0 1 b (omega arith)) good
     (λ n rest left i number few still. whole 65536 n rest left i (omega arith) (omega arith) still)
 
@@ -90,12 +90,12 @@ night-is : (bs : List ℕ) (o : Outcome (Unit {0})) → o ≡ recordingCheck bs 
 unfolding nightOutcome
 night-is bs o e = ap (λ (p : Outcome (Unit {0})). p then λ _. done (listingOf bs)) e
 
-pub list-done : (bs o o′ : List ℕ) (p : Piece) (c : Told) → toldOutcome c ≡ recordingCheck bs → c ≡ Told.Done → length o ≡ 2162719
+pub list-done : (bs o o′ : List ℕ) (p : Piece) (c : Completion) → completionOutcome c ≡ recordingCheck bs → c ≡ Completion.Done → length o ≡ 2162719
     → (night : Night) → night ≡ begun → Answers (pieceOf night bs true (length o)) o o′ p
     → (done (p .length) ≡ lengthOf (nightOutcome bs)) × ((o′ ≡ listAfter (nightOutcome bs) o) × BestNight bs)
 unfolding answerOf lengthOf listAfter
 list-done bs o o′ p c e g long night n a =
-    let good : done tt ≡ recordingCheck bs = ap toldOutcome (sym g) ∙ e in
+    let good : done tt ≡ recordingCheck bs = ap completionOutcome (sym g) ∙ e in
     let night-done : done (listingOf bs) ≡ nightOutcome bs = night-is bs (done tt) good in
     let text : pieceOf night bs true (length o) .text ≡ listingOf bs =
     ap (λ (m : ℕ). pieceOf night bs true m .text) long ∙ ap (λ (m : Night). pieceOf m bs true 2162719 .text) n ∙ whole-listing bs (sym good)
@@ -104,10 +104,10 @@ list-done bs o o′ p c e g long night n a =
       (a .1 ∙ ap (λ (t : List ℕ). atStart t o) text ∙ ap (λ (x : Outcome (List ℕ)). listAfter x o) night-done, best-night bs),
     )
 
-pub list-stopped : (bs o : List ℕ) (c : Told) → toldOutcome c ≡ recordingCheck bs → (s : Stop) → c ≡ Told.Stopped s
+pub list-stopped : (bs o : List ℕ) (c : Completion) → completionOutcome c ≡ recordingCheck bs → (s : Stop) → c ≡ Completion.Stopped s
     → (stop (s .number) (s .place) ≡ lengthOf (nightOutcome bs)) × ((o ≡ listAfter (nightOutcome bs) o) × BestNight bs)
 unfolding lengthOf listAfter
 list-stopped bs o c e s g =
-    let bad : stop (s .number) (s .place) ≡ recordingCheck bs = ap toldOutcome (sym g) ∙ e in
+    let bad : stop (s .number) (s .place) ≡ recordingCheck bs = ap completionOutcome (sym g) ∙ e in
     let night-stop : stop (s .number) (s .place) ≡ nightOutcome bs = night-is bs (stop (s .number) (s .place)) bad in
     (ap lengthOf night-stop, (ap (λ (x : Outcome (List ℕ)). listAfter x o) night-stop, best-night bs))

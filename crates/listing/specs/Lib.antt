@@ -1,5 +1,6 @@
--- A night's listing, whole and in pieces.
-pub mod Listing
+-- What the papers say of a night's listing, whole and in pieces.
 pub mod Nights
+pub mod Listing
 pub mod Pieces
+-- The papers' example.
 pub mod Example

@@ -1,14 +1,19 @@
 -- A night's listing, from the bytes of its recording.
 use Prim.Native.Nat.{ℕ, zero, suc, _-_}
 use mathlib.Core.List.{List, [], _∷_, _++_}
-use lib.ListN.{drop}
-use Rattle.slash.specs.Answers.{Outcome, stop, done}
-use Rattle.breaths.specs.Breaths.{breathRatio, noSums, withBreath, nightRatio}
+use mathlib.Core.Path.{_≡_}
+use lib.ListN.{drop, length}
+use Rattle.slash.specs.Answers.{Outcome, stop, done, _then_}
+use Rattle.breaths.specs.Breaths.{breathRatio, BestBreaths}
+use Rattle.breaths.specs.Sums.{nightRatio, sumsOf}
+use Rattle.breaths.specs.Ratios.{BestRatio}
 use Rattle.breaths.specs.declared.breath.Breath.{Breath}
-use Rattle.breaths.specs.declared.breath.Sums.{Sums}
+use Rattle.breaths.specs.declared.sums.Sums.{Sums}
 use Rattle.text.specs.Lines.{lineOf, refusedLine}
+use Rattle.text.specs.Stores.{atStart}
 use Rattle.text.specs.declared.line.Name.the-variants.{Number, All}
-use Rattle.recording.specs.Reading.{aBreath, theEnd, nextOf}
+use Rattle.recording.specs.Reading.{aBreath, theEnd, nextOf, linesFrom, breathsIn, recordingCheck}
+use Rattle.listing.specs.Nights.{begun, withLine}
 use Rattle.listing.specs.declared.night.Night.{Night}
 
 -- ---- the lines
@@ -23,14 +28,6 @@ allLine s = lineOf All (nightRatio s)
 
 -- ---- the listing, line by line
 
--- A night of which nothing is read: line 1 and breath 1 are the next, and there are no sums.
-abbrev pub begun : Night
-begun = record { line = 1; breath = 1; sums = noSums }
-
--- The night behind one breath more.
-unfoldable pub withLine : Night → Breath → Night
-withLine night b = record { line = suc (night .line); breath = suc (night .breath); sums = withBreath (night .sums) b }
-
 -- The listing from a night on, of the bytes not yet read, in so many steps: a step is a line. Where a line stops it, it ends with `refused`, and
 -- no `all` line.
 unfoldable pub listingFrom : (steps : ℕ) → Night → List ℕ → List ℕ
@@ -42,9 +39,9 @@ listingFrom (suc steps) night bs =
       | stop number place ↦ refusedLine number place
     ]
 
--- Line 65,537 ends every listing, so that the steps up to it are enough (proved: `listing-steps`).
+-- As many steps as there can be lines are enough (proved: `listing-steps`).
 unfoldable pub listingOn : Night → List ℕ → List ℕ
-listingOn night bs = listingFrom (65538 - night .line) night bs
+listingOn night bs = listingFrom (linesFrom (night .line)) night bs
 
 -- The listing of a recording.
 unfoldable pub listingOf : List ℕ → List ℕ
@@ -61,3 +58,27 @@ numbered number (b ∷ bs) = breathLine number b ++ numbered (suc number) bs
 unfoldable pub lastLine : Sums → Outcome (Unit {0}) → List ℕ
 lastLine s (stop number place) = refusedLine number place
 lastLine s (done x) = allLine s
+
+-- ---- what listing a whole recording comes to
+
+-- The stops of the recording, or its listing.
+unfoldable pub nightOutcome : List ℕ → Outcome (List ℕ)
+nightOutcome bs = recordingCheck bs then λ _. done (listingOf bs)
+
+-- How long a text is.
+unfoldable pub lengthOf : Outcome (List ℕ) → Outcome ℕ
+lengthOf o = o then λ text. done (length text)
+
+-- What the lent list is then: as it was on a stop; else with the text at its start.
+unfoldable pub listAfter : Outcome (List ℕ) → List ℕ → List ℕ
+listAfter (stop number place) old = old
+listAfter (done text) old = atStart text old
+
+-- ---- demand 3
+
+-- Demand 3, of a night: its listing is the numbered lines of its breaths, and then `all` of their sums, or `refused`; and the word of each breath
+-- that isn't void, and of all of them, is best for its N and D.
+pub record BestNight (bs : List ℕ) : Type 0 where
+  pub lines : listingOf bs ≡ numbered 1 (breathsIn bs) ++ lastLine (sumsOf (breathsIn bs)) (recordingCheck bs)
+  pub each : BestBreaths (breathsIn bs)
+  pub all : BestRatio (sumsOf (breathsIn bs) .inspiration) (sumsOf (breathsIn bs) .whole) (nightRatio (sumsOf (breathsIn bs)))

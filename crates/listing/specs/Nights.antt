@@ -1,30 +1,25 @@
--- What listing a whole recording comes to, and demand 3 of a night.
-use Prim.Native.Nat.{ℕ}
-use mathlib.Core.Path.{_≡_}
-use mathlib.Core.List.{List, _++_}
-use lib.ListN.{length}
-use Rattle.slash.specs.Answers.{Outcome, stop, done, _then_}
-use Rattle.breaths.specs.Breaths.{nightRatio, sumsOf, BestRatio, BestBreaths}
-use Rattle.text.specs.Stores.{atStart}
-use Rattle.recording.specs.Reading.{breathsIn, recordingCheck}
-use Rattle.listing.specs.Listing.{listingOf, numbered, lastLine}
+-- A night under way: the numbers of the next line and of the next breath, and the sums of the breaths before it.
+use Prim.Native.Nat.{suc, _-_, _*_}
+use mathlib.Core.Bool.{Bool, _&&_}
+use lib.Dec.{eqb, leb}
+use Rattle.breaths.specs.Breaths.{mostTicks}
+use Rattle.breaths.specs.Sums.{noSums, withBreath}
+use Rattle.breaths.specs.declared.breath.Breath.{Breath}
+use Rattle.recording.specs.Reading.{mostLines}
+use Rattle.listing.specs.declared.night.Night.{Night}
 
--- The stops of the recording, or its listing.
-unfoldable pub nightOutcome : List ℕ → Outcome (List ℕ)
-nightOutcome bs = recordingCheck bs then λ _. done (listingOf bs)
+-- A night of which nothing is read: line 1 and breath 1 are the next, and there are no sums.
+abbrev pub begun : Night
+begun = record { line = 1; breath = 1; sums = noSums }
 
--- How long a text is.
-unfoldable pub lengthOf : Outcome (List ℕ) → Outcome ℕ
-lengthOf o = o then λ text. done (length text)
+-- The night behind one breath more.
+unfoldable pub withLine : Night → Breath → Night
+withLine night b = record { line = suc (night .line); breath = suc (night .breath); sums = withBreath (night .sums) b }
 
--- What the lent list is then: as it was on a stop; else with the text at its start.
-unfoldable pub listAfter : Outcome (List ℕ) → List ℕ → List ℕ
-listAfter (stop number place) old = old
-listAfter (done text) old = atStart text old
-
--- Demand 3, of a night: its listing is the numbered lines of its breaths, and then `all` of their sums, or `refused`; and the word of each breath
--- that isn't void, and of all of them, is best for its N and D.
-pub record BestNight (bs : List ℕ) : Type 0 where
-  pub lines : listingOf bs ≡ numbered 1 (breathsIn bs) ++ lastLine (sumsOf (breathsIn bs)) (recordingCheck bs)
-  pub each : BestBreaths (breathsIn bs)
-  pub all : BestRatio (sumsOf (breathsIn bs) .inspiration) (sumsOf (breathsIn bs) .whole) (nightRatio (sumsOf (breathsIn bs)))
+-- A night of a recording: from line 1 to line 65,537; each line before it was a breath's, so that the next breath has the next line's number; each
+-- breath has a whole below 2^32 and, where it is summed, an in that doesn't exceed it.
+unfoldable pub isNight : Night → Bool
+isNight night =
+    (leb 1 (night .line) && leb (night .line) (suc mostLines))
+    && (eqb (night .breath) (night .line)
+    && (leb (night .sums .whole) ((night .line - 1) * mostTicks) && leb (night .sums .inspiration) (night .sums .whole)))

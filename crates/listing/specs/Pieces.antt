@@ -1,31 +1,27 @@
 -- A listing made in pieces: what is listed of some bytes where others may follow them.
-use Prim.Native.Nat.{ℕ, zero, suc, _+_, _-_, _*_}
+use Prim.Native.Nat.{ℕ, zero, suc, _-_, _+_}
+use mathlib.Core.List.{List, [], _++_}
 use mathlib.Core.Path.{_≡_}
 use mathlib.Core.Bool.{Bool, true, false, _&&_, _||_}
-use mathlib.Core.List.{List, [], _++_}
-use lib.Dec.{eqb, leb, ltb}
-use lib.ListN.{length, take, drop}
+use lib.ListN.{drop, length, take}
+use lib.Dec.{leb, ltb}
 use Rattle.convergents.specs.Choice.{if_then_else_}
 use Rattle.slash.specs.Answers.{Outcome, stop, done, unnumbered}
-use Rattle.breaths.specs.Breaths.{nightRatio, sumsOf, addSums, BestRatio, BestBreaths}
+use Rattle.breaths.specs.Sums.{nightRatio, sumsOf, addSums}
+use Rattle.breaths.specs.Ratios.{BestRatio}
+use Rattle.breaths.specs.Breaths.{BestBreaths}
 use Rattle.breaths.specs.declared.breath.Breath.{Breath}
-use Rattle.breaths.specs.declared.breath.Sums.{Sums}
-use Rattle.text.specs.Parts.{lengthBefore}
-use Rattle.text.specs.Lines.{refusedLine}
-use Rattle.recording.specs.Reading.{aBreath, theEnd, nextOf, breathsOn}
-use Rattle.listing.specs.Listing.{breathLine, allLine, numbered, withLine, listingOn}
+use Rattle.breaths.specs.declared.sums.Sums.{Sums}
+use Rattle.text.specs.Lines.{refusedLine, longestLine}
+use Rattle.text.specs.Scan.{lengthBefore}
+use Rattle.recording.specs.Lines.{mostBytes}
+use Rattle.recording.specs.Reading.{aBreath, theEnd, nextOf, linesFrom, breathsOn}
+use Rattle.listing.specs.Nights.{withLine, isNight}
+use Rattle.listing.specs.Listing.{breathLine, allLine, listingOn, numbered}
 use Rattle.listing.specs.declared.night.Night.{Night}
 use Rattle.listing.specs.declared.piece.End.{End}
 use Rattle.listing.specs.declared.piece.End.the-variants.{Open, Closed, Refused, NoNight}
 use Rattle.listing.specs.declared.piece.Piece.{Piece}
-
--- A night of a recording: from line 1 to line 65,537; each line before it was a breath's, so that the next breath has the next line's number; each
--- breath has a whole below 2^32 and, where it is summed, an in that doesn't exceed it.
-unfoldable pub isNight : Night → Bool
-isNight night =
-    (leb 1 (night .line) && leb (night .line) 65537)
-    && (eqb (night .breath) (night .line)
-    && (leb (night .sums .whole) ((night .line - 1) * 4294967295) && leb (night .sums .inspiration) (night .sums .whole)))
 
 -- The outcome that each end stands for: a stop; or whether the listing is whole. A night that comes of no recording is refused.
 abbrev pub endOutcome : End → Outcome Bool
@@ -35,7 +31,7 @@ endOutcome (Refused s) = stop (s .number) (s .place)
 endOutcome NoNight = unnumbered
 
 -- The text that is listed, how many bytes it uses, the night behind it, and whether it is the end.
-pub record Listed : Type 0 where
+pub record ListedPiece : Type 0 where
   pub text : List ℕ
   pub used : ℕ
   pub night : Night
@@ -43,43 +39,43 @@ pub record Listed : Type 0 where
 
 -- A stop behind bytes that a piece used is left to the next piece, and this one is open: a piece that is refused uses and lists
 -- nothing.
-unfoldable pub heldBack : (used : ℕ) → End → End
-heldBack zero end = end
-heldBack (suc used) end = elim (endOutcome end) [ stop number place ↦ Open | done whole ↦ end ]
+unfoldable pub leftToNext : (used : ℕ) → End → End
+leftToNext zero end = end
+leftToNext (suc used) end = elim (endOutcome end) [ stop number place ↦ Open | done whole ↦ end ]
 
 -- Nothing more is used; what is listed may be the last line.
-unfoldable pub stay : Night → List ℕ → End → Listed
-stay night text end = record { text = text; used = 0; night = night; end = end }
+unfoldable pub endsHere : Night → List ℕ → End → ListedPiece
+endsHere night text end = record { text = text; used = 0; night = night; end = end }
 
 -- A line that used so many bytes, and what is listed behind it.
-unfoldable pub onward : (line : List ℕ) (used : ℕ) → Listed → Listed
-onward line used l = record { text = line ++ l .text; used = used + l .used; night = l .night; end = heldBack used (l .end) }
+unfoldable pub lineThen : (line : List ℕ) (used : ℕ) → ListedPiece → ListedPiece
+lineThen line used l = record { text = line ++ l .text; used = used + l .used; night = l .night; end = leftToNext used (l .end) }
 
--- The next line is listed where it has room and is sure: no line of a listing has more than 33 bytes, and what stands behind a line feed
--- (byte 10), or behind the first 33 bytes of a recording, doesn't change its first line. `last` says that nothing follows the bytes.
+-- The next line is listed where the longest has room and it is sure: what stands behind a line feed (byte 10), or behind more bytes than a
+-- line has before its line feed, doesn't change it. `last` says that nothing follows the bytes.
 unfoldable pub isSure : List ℕ → (last : Bool) (room : ℕ) → Bool
-isSure bs last room = leb 33 room && (last || (leb 33 (length bs) || ltb (lengthBefore 10 bs) (length bs)))
+isSure bs last room = leb longestLine room && (last || (leb (suc mostBytes) (length bs) || ltb (lengthBefore 10 bs) (length bs)))
 
 -- What is listed of some bytes from a night on, in so many steps.
-unfoldable pub pieceFrom : (steps : ℕ) → Night → List ℕ → (last : Bool) (room : ℕ) → Listed
-pieceFrom zero night bs last room = stay night [] Open
+unfoldable pub pieceFrom : (steps : ℕ) → Night → List ℕ → (last : Bool) (room : ℕ) → ListedPiece
+pieceFrom zero night bs last room = endsHere night [] Open
 pieceFrom (suc steps) night bs last room =
     elim (isSure bs last room) [
-      | false ↦ stay night [] Open
+      | false ↦ endsHere night [] Open
       | true ↦ elim (nextOf (night .line) bs) [
-        | done (aBreath entry) ↦ onward (breathLine (night .breath) (entry .breath)) (entry .used)
+        | done (aBreath entry) ↦ lineThen (breathLine (night .breath) (entry .breath)) (entry .used)
             (pieceFrom steps (withLine night (entry .breath)) (drop (entry .used) bs) last (room - length (breathLine (night .breath) (entry .breath))))
-        | done theEnd ↦ stay night (allLine (night .sums)) Closed
-        | stop number place ↦ stay night [] (Refused (record { number = number; place = place }))
+        | done theEnd ↦ endsHere night (allLine (night .sums)) Closed
+        | stop number place ↦ endsHere night [] (Refused (record { number = number; place = place }))
       ]
     ]
 
 -- Where the night is none of a recording, nothing is listed.
-unfoldable pub pieceOf : Night → List ℕ → (last : Bool) (room : ℕ) → Listed
-pieceOf night bs last room = if isNight night then pieceFrom (65538 - night .line) night bs last room else stay night [] NoNight
+unfoldable pub pieceOf : Night → List ℕ → (last : Bool) (room : ℕ) → ListedPiece
+pieceOf night bs last room = if isNight night then pieceFrom (linesFrom (night .line)) night bs last room else endsHere night [] NoNight
 
 -- How a piece is answered: the text stands in the lent list, and its length is told.
-unfoldable pub answerOf : Listed → Piece
+unfoldable pub answerOf : ListedPiece → Piece
 answerOf l = record { used = l .used; length = length (l .text); night = l .night; end = l .end }
 
 -- ---- what pieces make
@@ -92,7 +88,8 @@ goesOn (done false) night bs = listingOn night bs
 goesOn (done true) night bs = []
 goesOn (stop number place) night bs = refusedLine number place
 
-unfoldable pub restOf : Listed → (bs more : List ℕ) → List ℕ
+-- The same of a piece of some bytes, and what follows them.
+unfoldable pub restOf : ListedPiece → (bs more : List ℕ) → List ℕ
 restOf l bs more = goesOn (endOutcome (l .end)) (l .night) (drop (l .used) bs ++ more)
 
 -- Pieces make the listing: from a night on, that of some bytes and whatever follows them is the piece's text, and then what it goes on with.
@@ -105,7 +102,7 @@ MakesListing night bs last room =
 -- ---- demand 3 of a piece
 
 -- The breaths that a piece lists: those of the bytes that it used.
-unfoldable pub breathsOf : Night → List ℕ → Listed → List Breath
+unfoldable pub breathsOf : Night → List ℕ → ListedPiece → List Breath
 breathsOf night bs l = breathsOn (night .line) (take (l .used) bs)
 
 -- What stands behind their lines: `all` where the recording ends.
@@ -116,7 +113,7 @@ endText s (stop number place) = []
 
 -- A piece's text is the numbered lines of its breaths, and `all` at the end; the sums behind it are those before it and those of its breaths; and
 -- the word of each breath that isn't void, and of all, is best for its N and D.
-pub record BestPiece (night : Night) (bs : List ℕ) (l : Listed) : Type 0 where
+pub record BestPiece (night : Night) (bs : List ℕ) (l : ListedPiece) : Type 0 where
   pub lines : l .text ≡ numbered (night .breath) (breathsOf night bs l) ++ endText (l .night .sums) (endOutcome (l .end))
   pub sums : l .night .sums ≡ addSums (night .sums) (sumsOf (breathsOf night bs l))
   pub each : BestBreaths (breathsOf night bs l)

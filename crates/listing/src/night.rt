@@ -1,17 +1,10 @@
 // A night that is being listed.
 ghost use mathlib.Core.Path.{_≡_};
 ghost use mathlib.Core.Bool.{true};
-ghost use Rattle.listing.specs.Listing.{begun, withLine};
-ghost use Rattle.listing.specs.Pieces.{isNight};
+ghost use Rattle.listing.specs.Nights.{begun, withLine, isNight};
 use breaths::Added;
 use breaths::Breath;
 use breaths::Sums;
-
-// The most lines of a recording.
-const MOST_LINES: u32 = 65536;
-
-// The longest duration.
-const MOST_TICKS: u64 = 4294967295;
 
 // The numbers of its next line and of its next breath, from 1, and the sums so far.
 pub struct Night {
@@ -44,9 +37,9 @@ pub(crate) fn is_night(night: Night) -> bool
     if line == 0 {
         return false;
     }
-    let most = (line - 1) as u64 * MOST_TICKS;
+    let most = (line - 1) as u64 * recording::MOST_TICKS;
     let sums = night.sums;
-    (line <= MOST_LINES + 1)
+    (line <= recording::MOST_LINES + 1)
         & ((night.breath == line) & ((sums.whole <= most) & (sums.inspiration <= sums.whole)))
 }
 

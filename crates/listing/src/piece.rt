@@ -1,29 +1,20 @@
-// The listing of a recording, whole or in pieces as its bytes come.
+// The listing of a recording in pieces, as its bytes come.
 ghost use mathlib.Core.Path.{_≡_};
 ghost use mathlib.Core.Bool.{true};
 ghost use lib.ListN.{length};
-ghost use Rattle.slash.specs.Answers.{outcome, Stops};
+ghost use Rattle.slash.specs.Answers.{Stops};
 ghost use Rattle.text.specs.Stores.{atStart};
-ghost use Rattle.listing.specs.Nights.{nightOutcome, lengthOf, listAfter, BestNight};
-ghost use Rattle.listing.specs.Pieces.{isNight, endOutcome, isSure, heldBack, pieceOf, answerOf, MakesListing, BestPiece};
+ghost use Rattle.listing.specs.Nights.{isNight};
+ghost use Rattle.listing.specs.Pieces.{endOutcome, isSure, leftToNext, pieceOf, answerOf, MakesListing, BestPiece};
 use crate::night::Night;
 use crate::night::is_night;
 use crate::night::with_line;
 use recording::Next;
-use recording::check;
 use recording::next_line;
-use slash::Answer;
 use slash::Stop;
-use slash::Told;
 use text::Name;
 use text::length_before;
 use text::put_line;
-
-// The longest line of a recording, with its line feed.
-const LONGEST_READ: usize = 33;
-
-// The longest line of a listing.
-const LONGEST_LISTED: usize = 33;
 
 // How a piece ends: the listing goes on; it is whole; a line was refused; or the night was none of a
 // recording.
@@ -47,13 +38,13 @@ pub struct Piece {
 fn is_sure(bytes: &[u8], last: bool, room: usize) -> bool
     ensures { λ r. ⌜ r ≡ isSure (now (bytes .entry)) last room ⌝ }
 {
-    if room < LONGEST_LISTED {
+    if room < text::LONGEST_LINE {
         return false;
     }
     if last {
         return true;
     }
-    if LONGEST_READ <= bytes.len() {
+    if recording::LONGEST_LINE <= bytes.len() {
         return true;
     }
     length_before(bytes, b'\n') < bytes.len()
@@ -61,7 +52,7 @@ fn is_sure(bytes: &[u8], last: bool, room: usize) -> bool
 
 // A stop behind bytes that a piece used is left to the next piece, and this one is open.
 fn refused(used: usize, stop: Stop) -> End
-    ensures { λ r. ⌜ r ≡ heldBack used (End.Refused stop) ⌝ }
+    ensures { λ r. ⌜ r ≡ leftToNext used (End.Refused stop) ⌝ }
 {
     if used == 0 {
         End::Refused(stop)
@@ -71,7 +62,7 @@ fn refused(used: usize, stop: Stop) -> End
 }
 
 // Stores a night's next lines, each as it is read, while they are sure and have room.
-fn put_lines(night: Night, bytes: &[u8], last: bool, out: &mut [u8]) -> Piece
+pub(crate) fn put_lines(night: Night, bytes: &[u8], last: bool, out: &mut [u8]) -> Piece
     requires { ⌜ isNight night ≡ true ⌝ }
     ensures answered { λ r. ⌜ r ≡ answerOf (pieceOf night (now (bytes .entry)) last (length (now (out .entry)))) ⌝ }
     ensures stored { λ _. ⌜ now (out .exit) ≡ atStart (pieceOf night (now (bytes .entry)) last (length (now (out .entry))) .text) (now (out .entry)) ⌝ }
@@ -136,19 +127,4 @@ pub fn list_piece(night: Night, bytes: &[u8], last: bool, out: &mut [u8]) -> Pie
         };
     }
     put_lines(night, bytes, last, out)
-}
-
-// Stores the listing of a recording at the start of the lent array, which holds the longest, and
-// answers its length. A bad line stops it: the recording is read through before anything is stored.
-pub fn list(recording: &[u8], listing: &mut [u8; 2162719]) -> Answer
-    ensures answered { λ r. ⌜ outcome r ≡ lengthOf (nightOutcome (now (recording .entry))) ⌝ }
-    ensures stored { λ _. ⌜ now (listing .exit) ≡ listAfter (nightOutcome (now (recording .entry))) (now (listing .entry)) ⌝ }
-    ensures best { λ _. ⌜ BestNight (now (recording .entry)) ⌝ }
-{
-    match check(recording) {
-        Told::Done => Answer::Done(
-            put_lines(Night::begun(), recording, true, listing).length as u64,
-        ),
-        Told::Stopped(stop) => Answer::Stopped(stop),
-    }
 }

@@ -66,30 +66,19 @@ fn fed(r: Recipe, b: u8, bytes: &mut [u8], listing: &mut [u8; 2162719]) -> Recip
     }
 }
 
-// The recipe after some bytes more.
-fn fed_all(r: Recipe, input: &[u8], bytes: &mut [u8], listing: &mut [u8; 2162719]) -> Recipe {
-    let mut next = r;
-    let mut i = 0;
-    while i < input.len() {
-        next = fed(next, input[i], bytes, listing);
-        i += 1;
-    }
-    next
-}
-
+// Reads a byte at a time: it costs a fraction of a second, and a buffer would want a loop of its own.
 fn main() {
-    let mut input = io::large_buffer();
+    let mut byte = [0u8; 1];
     let mut bytes = recording_buffer();
     let mut listing = listing_buffer();
     let mut r = recipe::begun();
-    // At most so many buffers, since a program has to end.
-    let mut left: u64 = 1000000;
+    // At most so many bytes, since a program has to end.
+    let mut left: u64 = 1000000000000;
     while left > 0 {
-        let n = io::read_full(STDIN_FILENO, &mut input);
-        if n == 0 {
+        if io::read_full(STDIN_FILENO, &mut byte) == 0 {
             return;
         }
-        r = fed_all(r, &input[..n], &mut bytes, &mut listing);
+        r = fed(r, byte[0], &mut bytes, &mut listing);
         left -= 1;
     }
 }

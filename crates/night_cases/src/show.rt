@@ -11,10 +11,6 @@ pub(crate) fn byte(b: u8) {
     text(&one);
 }
 
-fn number(n: u64) {
-    io::print_decimal(STDOUT_FILENO, n);
-}
-
 fn wide(b: u8) -> u64
     ensures { λ r. ⌜ r < 256 ⌝ }
 {
@@ -35,9 +31,9 @@ fn checksum(bytes: &[u8]) -> u64 {
 // What tells a listing of more than 2000 bytes: its length, its checksum and its last 64 bytes.
 fn long_listing(bytes: &[u8]) {
     let length = bytes.len();
-    number(length as u64);
+    io::print_decimal(STDOUT_FILENO, length as u64);
     text(b" ");
-    number(checksum(bytes));
+    io::print_decimal(STDOUT_FILENO, checksum(bytes));
     text(b"\n");
     if 64 <= length {
         let from = length - 64;

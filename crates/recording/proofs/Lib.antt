@@ -1,5 +1,5 @@
 -- The laws that the functions' proofs cite, and what follows from the definitions.
 pub mod LineLaws
-pub mod StartLaws
+pub mod StepLaws
 pub mod ReadingLaws
-pub mod Marks
+pub mod TickLaws

@@ -1,4 +1,6 @@
--- Reading a line: where a byte stands first, digits, fields. Assumes nothing.
+-- Reading a line: digits, fields, the line. Assumes nothing.
+-- `line-words`: a line is stopped with 9 where over 32 bytes stand before its line feed, or there is none, in the papers' words. `line-sound`: a
+-- breath's line uses from 1 to 33 of the bytes, and its durations are below 2^32. `ended-line`: what follows a line feed doesn't change the line.
 use mathlib.Core.Path.{_≡_, refl, sym, ap, _∙_, subst}
 use mathlib.Core.Bool.{Bool, true, false, _&&_, _||_, and-false, or-true}
 use mathlib.Core.Logic.{_⊎_, inl, inr}
@@ -14,13 +16,13 @@ use lib.Seq.{take-append-le, split-at, take-suc, take-all, getD-drop}
 use borrow.Author.Tests.{eq-eqb, ne-eqb, le-leb, lt-leb, le-ltb, lt-ltb, leb-true}
 use Rattle.convergents.specs.Choice.{if_then_else_}
 use Rattle.breaths.specs.Breaths.{span, breathOf}
-use Rattle.text.specs.Parts.{lengthBefore, isDigit, inFirst, fields}
-use Rattle.text.proofs.FindLaws.{before-step, before-le, before-take, before-taken, before-far, before-append}
-use Rattle.recording.specs.Lines.{digitsFrom, readMark, fromMarks, fromFields, readLine}
-use Rattle.recording.specs.Starts.{Led}
+use Rattle.text.specs.Scan.{lengthBefore, isDigit, inFirst, lineFields}
+use Rattle.text.proofs.ScanLaws.{before-step, before-le, before-take, before-taken, before-far, before-append}
+use Rattle.recording.specs.Lines.{digitsFrom, readTick, fromTicks, fromFields, readLine}
+use Rattle.recording.specs.Steps.{LeadingDigits}
 use Rattle.breaths.specs.declared.breath.Breath.{Breath}
-use Rattle.recording.specs.declared.line.Mark.{Mark}
-use Rattle.recording.specs.declared.line.Mark.the-variants.{Tick, Wrong}
+use Rattle.recording.specs.declared.line.Tick.{Tick}
+use Rattle.recording.specs.declared.line.Tick.the-variants.{Good, Wrong}
 use Rattle.recording.specs.declared.line.Entry.{Entry}
 use Rattle.recording.specs.declared.line.Line.{Line}
 use Rattle.recording.specs.declared.line.Line.the-variants.{Read, Refused}
@@ -30,7 +32,7 @@ use Rattle.recording.specs.declared.line.Line.the-variants.{Read, Refuse
 pub digits-step : (v x : ℕ) (xs : List ℕ) (t : Bool) → (isDigit x && leb (v * 10 + (x - 48)) 4294967295) ≡ t
     → digitsFrom v (x ∷ xs) ≡ elim t [ true ↦ digitsFrom (v * 10 + (x - 48)) xs | false ↦ Wrong ]
 unfolding digitsFrom
-digits-step v x xs t e = ap (λ (y : Bool). elim y as (λ z. Mark) [ true ↦ digitsFrom (v * 10 + (x - 48)) xs | false ↦ Wrong ]) e
+digits-step v x xs t e = ap (λ (y : Bool). elim y as (λ z. Tick) [ true ↦ digitsFrom (v * 10 + (x - 48)) xs | false ↦ Wrong ]) e
 
 module _ (x : ℕ) where
   digit-low : x < 48 → (t : Bool) → (isDigit x && t) ≡ false
@@ -45,7 +47,7 @@ module _ (x : ℕ) where
   unfolding isDigit
   digit-good h l t = rw (le-leb 48 x h, le-leb x 57 l) refl
 
-pub no-tick : (n : ℕ) → Wrong ≡ Tick n → ⊥
+pub no-tick : (n : ℕ) → Wrong ≡ Good n → ⊥
 no-tick n e = let z : _≡_ {A = ℕ} 0 1 = cc in omega arith
 
 pub digit-bounds : (x : ℕ) (t : Bool) → (isDigit x && t) ≡ true → (48 ≤ x) × (x ≤ 57) × (t ≡ true)
@@ -99,16 +101,16 @@ module _ {bs : List ℕ} {from limit v i : ℕ} (d : Leading bs from limit v i) 
       let most : 10 ^ d .count ≤ 10 ^ 9 = pow-le-pow-right {n = 10} (omega arith) {i = d .count} {j = 9} (omega (arith, d .place)) in
       omega (arith, d .few)
 
-  pub leading-end : limit ≤ i → Led bs from limit v i
+  pub leading-end : limit ≤ i → LeadingDigits bs from limit v i
   leading-end l = record { count = d .count; place = d .place; within = d .within; few = d .few; goes = d .goes; stopped = λ h. absurd (omega arith) }
 
   abbrev x : ℕ
   x = getD bs i 0
 
-  pub leading-low : x < 48 → Led bs from limit v i
+  pub leading-low : x < 48 → LeadingDigits bs from limit v i
   leading-low h = record { count = d .count; place = d .place; within = d .within; few = d .few; goes = d .goes; stopped = λ _. digit-low _ h }
 
-  pub leading-high : 57 < x → Led bs from limit v i
+  pub leading-high : 57 < x → LeadingDigits bs from limit v i
   leading-high h = record { count = d .count; place = d .place; within = d .within; few = d .few; goes = d .goes; stopped = λ _. digit-high _ h }
 
   pub leading-next : i < limit → limit ≤ length bs → 48 ≤ x → x ≤ 57 → Leading bs from limit (v * 10 + (x - 48)) (i + 1)
@@ -130,12 +132,12 @@ module _ {bs : List ℕ} {from limit v i : ℕ} (d : Leading bs from limit v i) 
       }
 
 -- the digits alone, where their number is a tick mark
-pub led-tick : {bs : List ℕ} {from limit v k : ℕ} (l : Led bs from limit v k) → v ≤ 4294967295 → digitsFrom 0 (take (l .count) (drop from bs)) ≡ Tick v
+pub leading-tick : {bs : List ℕ} {from limit v k : ℕ} (l : LeadingDigits bs from limit v k) → v ≤ 4294967295 → digitsFrom 0 (take (l .count) (drop from bs)) ≡ Good v
 unfolding digitsFrom
-led-tick {bs} {from} {limit} {v} l h =
+leading-tick {bs} {from} {limit} {v} l h =
     ap (digitsFrom 0) (sym (append-nil (take (l .count) (drop from bs)))) ∙ l .goes [] ∙ rw (le-leb _ _ h) refl
 
-module _ {ds : List ℕ} {v k : ℕ} (l : Led ds 0 (length ds) v k) where
+module _ {ds : List ℕ} {v k : ℕ} (l : LeadingDigits ds 0 (length ds) v k) where
   pub digits-wrong : k < length ds → Wrong ≡ digitsFrom 0 ds
   digits-wrong h =
       let c : ℕ = l .count in
@@ -146,7 +148,7 @@ module _ {ds : List ℕ} {v k : ℕ} (l : Led ds 0 (length ds) v k) where
       in
       sym (
       ap (digitsFrom 0) (split-at ds c 0 (omega arith)) ∙ l .goes (getD ds c 0 ∷ more)
-      ∙ ap (λ (m : Mark). if leb v 4294967295 then m else Wrong) (digits-step v (getD ds c 0) more false other)
+      ∙ ap (λ (m : Tick). if leb v 4294967295 then m else Wrong) (digits-step v (getD ds c 0) more false other)
       ∙ same (leb v 4294967295)
       )
     where
@@ -161,88 +163,88 @@ module _ {ds : List ℕ} {v k : ℕ} (l : Led ds 0 (length ds) v k) where
     pub digits-above : 4294967295 < v → Wrong ≡ digitsFrom 0 ds
     digits-above o = sym (ap (digitsFrom 0) (sym (append-nil ds) ∙ ap (λ (t : List ℕ). t ++ []) (sym all)) ∙ l .goes [] ∙ rw (lt-leb _ _ o) refl)
 
-    pub digits-tick : v ≤ 4294967295 → Tick v ≡ digitsFrom 0 ds
-    digits-tick s = sym (led-tick l s) ∙ ap (digitsFrom 0) all
+    pub digits-tick : v ≤ 4294967295 → Good v ≡ digitsFrom 0 ds
+    digits-tick s = sym (leading-tick l s) ∙ ap (digitsFrom 0) all
 
 -- ---- a tick mark
 
 module _ (f : List ℕ) where
-  pub mark-empty : length f ≡ 0 → Wrong ≡ readMark f
-  unfolding readMark
-  mark-empty h = go f h
+  pub tick-empty : length f ≡ 0 → Wrong ≡ readTick f
+  unfolding readTick
+  tick-empty h = go f h
     where
-      go : (g : List ℕ) → length g ≡ 0 → Wrong ≡ readMark g
+      go : (g : List ℕ) → length g ≡ 0 → Wrong ≡ readTick g
       go [] e = refl
       go (x ∷ xs) e = absurd (omega arith)
 
-  pub mark-leading : getD f 0 0 ≡ 48 → 1 < length f → Wrong ≡ readMark f
-  unfolding readMark
-  mark-leading e l = go f e l
+  pub tick-leading : getD f 0 0 ≡ 48 → 1 < length f → Wrong ≡ readTick f
+  unfolding readTick
+  tick-leading e l = go f e l
     where
-      go : (g : List ℕ) → getD g 0 0 ≡ 48 → 1 < length g → Wrong ≡ readMark g
+      go : (g : List ℕ) → getD g 0 0 ≡ 48 → 1 < length g → Wrong ≡ readTick g
       go [] z h = absurd (omega arith)
       go (x ∷ xs) z h = let p : 0 < length xs = omega arith in rw (eq-eqb x 48 z, lt-ltb 0 (length xs) p) refl
 
-  pub mark-digits : 1 ≤ length f → (getD f 0 0 ≡ 48 → ⊥) ⊎ (length f ≤ 1) → digitsFrom 0 f ≡ readMark f
-  unfolding readMark
-  mark-digits l w = go f l w
+  pub tick-digits : 1 ≤ length f → (getD f 0 0 ≡ 48 → ⊥) ⊎ (length f ≤ 1) → digitsFrom 0 f ≡ readTick f
+  unfolding readTick
+  tick-digits l w = go f l w
     where
-      go : (g : List ℕ) → 1 ≤ length g → (getD g 0 0 ≡ 48 → ⊥) ⊎ (length g ≤ 1) → digitsFrom 0 g ≡ readMark g
+      go : (g : List ℕ) → 1 ≤ length g → (getD g 0 0 ≡ 48 → ⊥) ⊎ (length g ≤ 1) → digitsFrom 0 g ≡ readTick g
       go [] h z = absurd (omega arith)
       go (x ∷ []) h (inl n) = rw (ne-eqb x 48 n) refl
       go (x ∷ y ∷ ys) h (inl n) = rw (ne-eqb x 48 n) refl
       go (x ∷ []) h (inr s) = rw (and-false (eqb x 48)) refl
       go (x ∷ y ∷ ys) h (inr s) = absurd (omega arith)
 
--- ---- three marks
+-- ---- three tick marks
 
-module _ (used : ℕ) (onset peak next : Mark) where
-  pub marks-onset : onset ≡ Wrong → Refused 11 ≡ fromMarks used onset peak next
-  unfolding fromMarks
-  marks-onset e = rw e refl
+module _ (used : ℕ) (onset peak next : Tick) where
+  pub ticks-onset : onset ≡ Wrong → Refused 11 ≡ fromTicks used onset peak next
+  unfolding fromTicks
+  ticks-onset e = rw e refl
 
-  module _ (o : ℕ) (oe : onset ≡ Tick o) where
-    pub marks-peak : peak ≡ Wrong → Refused 11 ≡ fromMarks used onset peak next
-    unfolding fromMarks
-    marks-peak e = rw (oe, e) refl
+  module _ (o : ℕ) (oe : onset ≡ Good o) where
+    pub ticks-peak : peak ≡ Wrong → Refused 11 ≡ fromTicks used onset peak next
+    unfolding fromTicks
+    ticks-peak e = rw (oe, e) refl
 
-    module _ (p : ℕ) (pe : peak ≡ Tick p) where
-      pub marks-next : next ≡ Wrong → Refused 11 ≡ fromMarks used onset peak next
-      unfolding fromMarks
-      marks-next e = rw (oe, pe, e) refl
+    module _ (p : ℕ) (pe : peak ≡ Good p) where
+      pub ticks-next : next ≡ Wrong → Refused 11 ≡ fromTicks used onset peak next
+      unfolding fromTicks
+      ticks-next e = rw (oe, pe, e) refl
 
-      pub marks-read : (n : ℕ) → next ≡ Tick n → (b : Breath) → b ≡ breathOf o p n
-          → Read (record { breath = b; used = used }) ≡ fromMarks used onset peak next
-      unfolding fromMarks
-      marks-read n e b be = rw (oe, pe, e, be) refl
+      pub ticks-read : (n : ℕ) → next ≡ Good n → (b : Breath) → b ≡ breathOf o p n
+          → Read (record { breath = b; used = used }) ≡ fromTicks used onset peak next
+      unfolding fromTicks
+      ticks-read n e b be = rw (oe, pe, e, be) refl
 
 -- ---- fields
 
-pub fields-step : (x : ℕ) (xs : List ℕ) (t : Bool) → eqb x 9 ≡ t → fields (x ∷ xs) ≡ elim t [ true ↦ [] ∷ fields xs | false ↦ inFirst x (fields xs) ]
-unfolding fields
-fields-step x xs t e = ap (λ (y : Bool). elim y as (λ z. List (List ℕ)) [ true ↦ [] ∷ fields xs | false ↦ inFirst x (fields xs) ]) e
+pub fields-step : (x : ℕ) (xs : List ℕ) (t : Bool) → eqb x 9 ≡ t → lineFields (x ∷ xs) ≡ elim t [ true ↦ [] ∷ lineFields xs | false ↦ inFirst x (lineFields xs) ]
+unfolding lineFields
+fields-step x xs t e = ap (λ (y : Bool). elim y as (λ z. List (List ℕ)) [ true ↦ [] ∷ lineFields xs | false ↦ inFirst x (lineFields xs) ]) e
 
-fields-nil : fields [] ≡ [] ∷ []
-unfolding fields
+fields-nil : lineFields [] ≡ [] ∷ []
+unfolding lineFields
 fields-nil = refl
 
 -- with no tab the line is one field
-pub fields-whole : (bs : List ℕ) → lengthBefore 9 bs ≡ length bs → fields bs ≡ bs ∷ []
+pub fields-whole : (bs : List ℕ) → lengthBefore 9 bs ≡ length bs → lineFields bs ≡ bs ∷ []
 fields-whole [] h = fields-nil
 fields-whole (x ∷ xs) h = go (eqb x 9) refl (fields-whole xs)
   where
-    go : (t : Bool) → eqb x 9 ≡ t → (lengthBefore 9 xs ≡ length xs → fields xs ≡ xs ∷ []) → fields (x ∷ xs) ≡ (x ∷ xs) ∷ []
+    go : (t : Bool) → eqb x 9 ≡ t → (lengthBefore 9 xs ≡ length xs → lineFields xs ≡ xs ∷ []) → lineFields (x ∷ xs) ≡ (x ∷ xs) ∷ []
     go true e ih = absurd (omega (arith, before-step 9 x xs true e))
     go false e ih = fields-step x xs false e ∙ ap (inFirst x) (ih (omega (arith, before-step 9 x xs false e)))
 
 -- else it is what stands before the first tab, and the fields of what stands behind it
-fields-cut : (bs : List ℕ) → lengthBefore 9 bs < length bs → fields bs ≡ take (lengthBefore 9 bs) bs ∷ fields (drop (suc (lengthBefore 9 bs)) bs)
+fields-cut : (bs : List ℕ) → lengthBefore 9 bs < length bs → lineFields bs ≡ take (lengthBefore 9 bs) bs ∷ lineFields (drop (suc (lengthBefore 9 bs)) bs)
 fields-cut [] h = absurd (omega arith)
 fields-cut (x ∷ xs) h = go (eqb x 9) refl (fields-cut xs)
   where
     go : (t : Bool) → eqb x 9 ≡ t
-        → (lengthBefore 9 xs < length xs → fields xs ≡ take (lengthBefore 9 xs) xs ∷ fields (drop (suc (lengthBefore 9 xs)) xs))
-        → fields (x ∷ xs) ≡ take (lengthBefore 9 (x ∷ xs)) (x ∷ xs) ∷ fields (drop (suc (lengthBefore 9 (x ∷ xs))) (x ∷ xs))
+        → (lengthBefore 9 xs < length xs → lineFields xs ≡ take (lengthBefore 9 xs) xs ∷ lineFields (drop (suc (lengthBefore 9 xs)) xs))
+        → lineFields (x ∷ xs) ≡ take (lengthBefore 9 (x ∷ xs)) (x ∷ xs) ∷ lineFields (drop (suc (lengthBefore 9 (x ∷ xs))) (x ∷ xs))
     go true e ih = fields-step x xs true e ∙ rw (before-step 9 x xs true e) refl
     go false e ih =
         fields-step x xs false e ∙ ap (inFirst x) (ih (omega (arith, before-step 9 x xs false e))) ∙ rw (before-step 9 x xs false e) refl
@@ -256,13 +258,13 @@ in-first : (x : ℕ) (l : List (List ℕ)) → Some (inFirst x l)
 in-first x [] = record { first = x ∷ []; others = []; is = refl }
 in-first x (f ∷ o) = record { first = x ∷ f; others = o; is = refl }
 
-fields-some : (bs : List ℕ) → Some (fields bs)
+fields-some : (bs : List ℕ) → Some (lineFields bs)
 fields-some [] = record { first = []; others = []; is = fields-nil }
 fields-some (x ∷ xs) = go (eqb x 9) refl
   where
-    go : (t : Bool) → eqb x 9 ≡ t → Some (fields (x ∷ xs))
-    go true e = record { first = []; others = fields xs; is = fields-step x xs true e }
-    go false e = subst Some (sym (fields-step x xs false e)) (in-first x (fields xs))
+    go : (t : Bool) → eqb x 9 ≡ t → Some (lineFields (x ∷ xs))
+    go true e = record { first = []; others = lineFields xs; is = fields-step x xs true e }
+    go false e = subst Some (sym (fields-step x xs false e)) (in-first x (lineFields xs))
 
 -- what stands behind place i, as code has it: a part of a list that runs to its end
 abbrev pub behind : ℕ → List ℕ → List ℕ
@@ -272,34 +274,34 @@ pub tail-is : (n : ℕ) (l : List ℕ) → take (length l - n) (drop n l) ≡ dr
 tail-is n l = take-all (length l - n) (drop n l) (omega (arith, length-drop n l))
 
 -- what stands before the first tab, and the fields of the rest
-cut : (line : List ℕ) (i : ℕ) → i ≡ lengthBefore 9 line → i < length line → fields line ≡ take i line ∷ fields (behind i line)
+cut : (line : List ℕ) (i : ℕ) → i ≡ lengthBefore 9 line → i < length line → lineFields line ≡ take i line ∷ lineFields (behind i line)
 cut line i ie l =
     fields-cut line (omega arith)
-    ∙ ap (λ (k : ℕ). take k line ∷ fields (drop (suc k) line)) (sym ie)
-    ∙ ap (λ (k : ℕ). take i line ∷ fields (drop k line)) (sym (add-one i))
-    ∙ ap (λ (u : List ℕ). take i line ∷ fields u) (sym (tail-is (i + 1) line))
+    ∙ ap (λ (k : ℕ). take k line ∷ lineFields (drop (suc k) line)) (sym ie)
+    ∙ ap (λ (k : ℕ). take i line ∷ lineFields (drop k line)) (sym (add-one i))
+    ∙ ap (λ (u : List ℕ). take i line ∷ lineFields u) (sym (tail-is (i + 1) line))
 
 module _ (used : ℕ) (line : List ℕ) (i : ℕ) (ie : i ≡ lengthBefore 9 line) where
-  pub fields-one : i ≡ length line → Refused 10 ≡ fromFields used (fields line)
+  pub fields-one : i ≡ length line → Refused 10 ≡ fromFields used (lineFields line)
   unfolding fromFields
   fields-one e = rw (fields-whole line (sym ie ∙ e)) refl
 
   module _ (l : i < length line) (j : ℕ) (je : j ≡ lengthBefore 9 (behind i line)) where
-    pub fields-two : j ≡ length (behind i line) → Refused 10 ≡ fromFields used (fields line)
+    pub fields-two : j ≡ length (behind i line) → Refused 10 ≡ fromFields used (lineFields line)
     unfolding fromFields
     fields-two e = rw (cut line i ie l, fields-whole (behind i line) (sym je ∙ e)) refl
 
     module _ (m : j < length (behind i line)) (k : ℕ) (ke : k ≡ lengthBefore 9 (behind j (behind i line))) where
-      pub fields-four : k < length (behind j (behind i line)) → Refused 10 ≡ fromFields used (fields line)
+      pub fields-four : k < length (behind j (behind i line)) → Refused 10 ≡ fromFields used (lineFields line)
       unfolding fromFields
       fields-four n =
           let last : List ℕ = behind j (behind i line) in
           let s = fields-some (behind k last) in
           rw (cut line i ie l, cut (behind i line) j je m, cut last k ke n, s .is) refl
 
-      pub fields-three : length (behind j (behind i line)) ≤ k → (x y z : Mark)
-          → x ≡ readMark (take i line) → y ≡ readMark (take j (behind i line)) → z ≡ readMark (behind j (behind i line))
-          → (r : Line) → r ≡ fromMarks used x y z → r ≡ fromFields used (fields line)
+      pub fields-three : length (behind j (behind i line)) ≤ k → (x y z : Tick)
+          → x ≡ readTick (take i line) → y ≡ readTick (take j (behind i line)) → z ≡ readTick (behind j (behind i line))
+          → (r : Line) → r ≡ fromTicks used x y z → r ≡ fromFields used (lineFields line)
       unfolding fromFields
       fields-three n x y z xe ye ze r e =
           let last : List ℕ = behind j (behind i line) in
@@ -329,11 +331,11 @@ module _ (bs : List ℕ) (most : ℕ) (me : most ≡ min 33 (length bs)) where
         let h : length (take 33 bs) ≤ k = omega (arith, ap length head-is) in
         rw (place, le-leb _ _ h) refl
 
-    pub line-some : k < length (take most bs) → (r : Line) → r ≡ fromFields (k + 1) (fields (take k bs)) → r ≡ readLine bs
+    pub line-some : k < length (take most bs) → (r : Line) → r ≡ fromFields (k + 1) (lineFields (take k bs)) → r ≡ readLine bs
     unfolding readLine
     line-some l r e =
         let h : k < length (take 33 bs) = omega (arith, ap length head-is) in
-        e ∙ ap (λ (n : ℕ). fromFields n (fields (take k bs))) (add-one k) ∙ rw (place, lt-leb _ _ h) refl
+        e ∙ ap (λ (n : ℕ). fromFields n (lineFields (take k bs))) (add-one k) ∙ rw (place, lt-leb _ _ h) refl
 
 -- ---- what holds of every line that is read
 
@@ -350,20 +352,20 @@ Sound bs (Read e) = Whole bs e
 Sound bs (Refused stop) = (9 ≤ stop) × (stop ≤ 11)
 
 module _ (bs : List ℕ) (used : ℕ) (ended : used ≡ suc (lengthBefore 10 bs)) (within : used ≤ length bs) (short : used ≤ 33) where
-  marks-sound : (onset peak next : Mark) → Sound bs (fromMarks used onset peak next)
-  unfolding fromMarks breathOf span
-  marks-sound (Tick o) (Tick p) (Tick n) =
+  ticks-sound : (onset peak next : Tick) → Sound bs (fromTicks used onset peak next)
+  unfolding fromTicks breathOf span
+  ticks-sound (Good o) (Good p) (Good n) =
       record { ended = ended; within = within; short = short; small = mod-lt (n + (2 ^ 32 - o)) (omega arith) }
-  marks-sound Wrong p n = (omega arith, omega arith)
-  marks-sound (Tick o) Wrong n = (omega arith, omega arith)
-  marks-sound (Tick o) (Tick p) Wrong = (omega arith, omega arith)
+  ticks-sound Wrong p n = (omega arith, omega arith)
+  ticks-sound (Good o) Wrong n = (omega arith, omega arith)
+  ticks-sound (Good o) (Good p) Wrong = (omega arith, omega arith)
 
   fields-sound : (l : List (List ℕ)) → Sound bs (fromFields used l)
   unfolding fromFields
   fields-sound [] = (omega arith, omega arith)
   fields-sound (x ∷ []) = (omega arith, omega arith)
   fields-sound (x ∷ y ∷ []) = (omega arith, omega arith)
-  fields-sound (x ∷ y ∷ z ∷ []) = marks-sound (readMark x) (readMark y) (readMark z)
+  fields-sound (x ∷ y ∷ z ∷ []) = ticks-sound (readTick x) (readTick y) (readTick z)
   fields-sound (x ∷ y ∷ z ∷ v ∷ more) = (omega arith, omega arith)
 
 module _ (bs : List ℕ) where
@@ -372,7 +374,7 @@ module _ (bs : List ℕ) where
   line-nine h = rw (le-leb _ _ h) refl
 
   pub line-read : lengthBefore 10 (take 33 bs) < length (take 33 bs)
-      → fromFields (suc (lengthBefore 10 (take 33 bs))) (fields (take (lengthBefore 10 (take 33 bs)) bs)) ≡ readLine bs
+      → fromFields (suc (lengthBefore 10 (take 33 bs))) (lineFields (take (lengthBefore 10 (take 33 bs)) bs)) ≡ readLine bs
   unfolding readLine
   line-read h = rw (lt-leb _ _ h) refl
 
@@ -386,7 +388,7 @@ module _ (bs : List ℕ) where
           let l : k < length (take 33 bs) = omega arith in
           let t = length-take 33 bs in
           let e : suc k ≡ suc (lengthBefore 10 bs) = ap suc (before-taken 10 33 bs l) in
-          subst (Sound bs) (line-read l) (fields-sound bs (suc k) e (omega (arith, l, t)) (omega (arith, l, t)) (fields (take k bs)))
+          subst (Sound bs) (line-read l) (fields-sound bs (suc k) e (omega (arith, l, t)) (omega (arith, l, t)) (lineFields (take k bs)))
 
 -- ---- the paper's words for stop 9
 
@@ -395,12 +397,12 @@ module _ (bs : List ℕ) where
   K = lengthBefore 10 bs
 
   -- A line is stopped with 9 where over 32 bytes stand before its line feed, or there is none.
-  pub line-words : readLine bs ≡ (if eqb K (length bs) || ltb 32 K then Refused 9 else fromFields (suc K) (fields (take K bs)))
+  pub line-words : readLine bs ≡ (if eqb K (length bs) || ltb 32 K then Refused 9 else fromFields (suc K) (lineFields (take K bs)))
   unfolding readLine
   line-words = go (decLe 33 K) (ℕ-discrete K (length bs))
     where
       go : Dec (33 ≤ K) → Dec (K ≡ length bs)
-          → readLine bs ≡ (if eqb K (length bs) || ltb 32 K then Refused 9 else fromFields (suc K) (fields (take K bs)))
+          → readLine bs ≡ (if eqb K (length bs) || ltb 32 K then Refused 9 else fromFields (suc K) (lineFields (take K bs)))
       go (yes l) e =
           let i : length (take 33 bs) ≤ lengthBefore 10 (take 33 bs) = omega (arith, before-far 10 33 bs l, length-take 33 bs) in
           rw (le-leb _ _ i, lt-ltb 32 K l, or-true) refl
@@ -421,7 +423,7 @@ ended-line bs more l =
     let far : lengthBefore 10 bs ≡ length (bs ++ more) → ⊥ = λ e. omega (arith, length-append bs more) in
     let near : lengthBefore 10 bs ≡ length bs → ⊥ = λ e. omega arith in
     let same : take (lengthBefore 10 bs) (bs ++ more) ≡ take (lengthBefore 10 bs) bs = take-append-le (lengthBefore 10 bs) bs more (omega arith) in
-    let line : Line = if ltb 32 (lengthBefore 10 bs) then Refused 9 else fromFields (suc (lengthBefore 10 bs)) (fields (take (lengthBefore 10 bs) bs)) in
+    let line : Line = if ltb 32 (lengthBefore 10 bs) then Refused 9 else fromFields (suc (lengthBefore 10 bs)) (lineFields (take (lengthBefore 10 bs) bs)) in
     let there : readLine (bs ++ more) ≡ line = rw (line-words (bs ++ more), k, ne-eqb _ _ far, same) refl in
     let here : readLine bs ≡ line = rw (line-words bs, ne-eqb _ _ near) refl in
     there ∙ sym here

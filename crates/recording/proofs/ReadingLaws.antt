@@ -1,4 +1,6 @@
--- A recording line by line: what comes next, what holds of it, and the loop that reads it through. Assumes nothing.
+-- A recording line by line. Assumes nothing.
+-- `next-follows`: what comes next is a breath's whole line, the end, or one of the recording's stops at that line. `next-ready`: what follows a
+-- whole line doesn't change it. `breaths-steps`, `check-steps`: no line behind 65,537 is read.
 use mathlib.Core.Path.{_≡_, refl, sym, ap, _∙_, subst}
 use mathlib.Core.Logic.{_⊎_, inl, inr}
 use mathlib.Core.List.{List, [], _∷_, _++_}
@@ -15,10 +17,10 @@ use Rattle.convergents.specs.Choice.{if_then_else_}
 use Rattle.slash.specs.Answers.{Outcome, stop, done, _then_}
 use Rattle.slash.specs.declared.answer.Stop.{Stop}
 use Rattle.breaths.specs.declared.breath.Breath.{Breath}
-use Rattle.text.specs.Parts.{lengthBefore}
-use Rattle.text.proofs.FindLaws.{before-le, before-take}
+use Rattle.text.specs.Scan.{lengthBefore}
+use Rattle.text.proofs.ScanLaws.{before-le, before-take}
 use Rattle.recording.specs.Lines.{readLine}
-use Rattle.recording.specs.Starts.{Spans, nextLength}
+use Rattle.recording.specs.Steps.{LineLength, nextLength}
 use Rattle.recording.specs.declared.reading.Length.{Length}
 use Rattle.recording.specs.declared.reading.Length.the-variants as Length
 use Rattle.recording.specs.Reading.{Coming, aBreath, theEnd, nextOutcome, closing, fromLine, nextOf, breathsFrom, checkFrom, recordingCheck}
@@ -248,7 +250,7 @@ unfolding recordingCheck
 reading-start bs = record { few = omega arith; within = omega arith; total = refl }
 
 -- how many bytes the next line takes
-pub length-quick : (line : ℕ) → line ≤ 65536 → (bs : List ℕ) (used : ℕ) → Spans bs used → Length.Line used ≡ nextLength (nextOf line bs)
+pub length-quick : (line : ℕ) → line ≤ 65536 → (bs : List ℕ) (used : ℕ) → LineLength bs used → Length.Line used ≡ nextLength (nextOf line bs)
 unfolding nextLength
 length-quick line few bs used s = ap nextLength (next-quick line few bs (record { breath = s .breath; used = used }) (s .read))
 

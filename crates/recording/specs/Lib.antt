@@ -1,4 +1,5 @@
 -- What the papers say of a night's recording, in their order: a line, and line by line.
 pub mod Lines
 pub mod Reading
-pub mod Starts
+-- For the code and the proofs alone.
+pub mod Steps

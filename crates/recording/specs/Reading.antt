@@ -5,6 +5,7 @@ use lib.Dec.{eqb, ltb}
 use lib.ListN.{drop}
 use Rattle.convergents.specs.Choice.{if_then_else_}
 use Rattle.slash.specs.Answers.{Outcome, stop, done, _then_}
+use Rattle.breaths.specs.Sums.{mostBreaths}
 use Rattle.breaths.specs.declared.breath.Breath.{Breath}
 use Rattle.recording.specs.Lines.{readLine}
 use Rattle.recording.specs.declared.line.Entry.{Entry}
@@ -35,10 +36,14 @@ unfoldable pub fromLine : (line : ℕ) → Line → Outcome Coming
 fromLine line (Line.Read entry) = done (aBreath entry)
 fromLine line (Line.Refused number) = stop number line
 
+-- One line a breath.
+abbrev pub mostLines : ℕ
+mostLines = mostBreaths
+
 -- What comes next, at a line, from the bytes not yet read. Stop 8: line 65,537 begins.
 unfoldable pub nextOf : (line : ℕ) → List ℕ → Outcome Coming
 nextOf line [] = closing line
-nextOf line (b ∷ bs) = if ltb 65536 line then stop 8 line else fromLine line (readLine (b ∷ bs))
+nextOf line (b ∷ bs) = if ltb mostLines line then stop 8 line else fromLine line (readLine (b ∷ bs))
 
 -- ---- all that comes
 
@@ -59,9 +64,13 @@ checkFrom (suc steps) line bs =
     nextOf line bs then λ x.
     elim x [ aBreath entry ↦ checkFrom steps (suc line) (drop (entry .used) bs) | theEnd ↦ done tt ]
 
--- Line 65,537 ends every recording, so that the steps up to it are enough (proved: `breaths-steps`, `check-steps`).
+-- How many lines there can be from a line on: line 65,537 ends every recording. So many steps are enough (proved: `breaths-steps`,
+-- `check-steps`).
+abbrev pub linesFrom : ℕ → ℕ
+linesFrom line = suc (suc mostLines) - line
+
 unfoldable pub breathsOn : (line : ℕ) → List ℕ → List Breath
-breathsOn line bs = breathsFrom (65538 - line) line bs
+breathsOn line bs = breathsFrom (linesFrom line) line bs
 
 -- The breaths of a recording.
 unfoldable pub breathsIn : List ℕ → List Breath
@@ -69,4 +78,4 @@ breathsIn bs = breathsOn 1 bs
 
 -- What reading a recording through comes to.
 unfoldable pub recordingCheck : List ℕ → Outcome (Unit {0})
-recordingCheck bs = checkFrom 65537 1 bs
+recordingCheck bs = checkFrom (linesFrom 1) 1 bs

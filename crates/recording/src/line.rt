@@ -2,25 +2,25 @@
 ghost use mathlib.Core.Path.{_≡_};
 ghost use Prim.Native.Nat.{_+_, _≤_, min};
 ghost use lib.ListN.{length};
-ghost use Rattle.text.specs.Parts.{fields};
-ghost use Rattle.recording.specs.Lines.{digitsFrom, readMark, fromMarks, fromFields, readLine};
-ghost use Rattle.recording.specs.Starts.{Led, Opened, Sought};
+ghost use Rattle.text.specs.Scan.{lineFields};
+ghost use Rattle.recording.specs.Lines.{digitsFrom, readTick, fromTicks, fromFields, readLine};
+ghost use Rattle.recording.specs.Steps.{LeadingDigits, TickFound, BreathFound};
 use crate::stop;
 use breaths::Breath;
 use text::length_before;
 
 // The longest line of a recording, with its line feed.
-pub(crate) const MOST_BYTES: usize = 33;
+pub const LONGEST_LINE: usize = 33;
 
 // The largest tick mark.
-const MOST_TICKS: u64 = 4294967295;
+pub const MOST_TICKS: u64 = 4294967295;
 
 // The most digits of a tick mark.
 const MOST_DIGITS: usize = 10;
 
 // What a field says.
-pub(crate) enum Mark {
-    Tick(u32),
+pub(crate) enum Tick {
+    Good(u32),
     Wrong,
 }
 
@@ -51,7 +51,7 @@ pub(crate) enum Pass {
 // The digits from a place on, up to a limit. Ten digits fit 64 bits, and no tick mark has more.
 fn leading_digits(bytes: &[u8], from: usize, limit: usize) -> Digits
     requires { ⌜ (from ≤ limit) × (limit ≤ from + 10) × (limit ≤ length (now bytes)) ⌝ }
-    ensures { λ r. ⌜ Led (now (bytes .entry)) from limit (r .value) (r .end) ⌝ }
+    ensures { λ r. ⌜ LeadingDigits (now (bytes .entry)) from limit (r .value) (r .end) ⌝ }
 {
     let mut value: u64 = 0;
     let mut i = from;
@@ -73,48 +73,48 @@ fn leading_digits(bytes: &[u8], from: usize, limit: usize) -> Digits
 }
 
 // The number of some digits.
-fn read_digits(digits: &[u8]) -> Mark
+fn read_digits(digits: &[u8]) -> Tick
     requires { ⌜ length (now digits) ≤ 10 ⌝ }
     ensures { λ r. ⌜ r ≡ digitsFrom 0 (now (digits .entry)) ⌝ }
 {
     let d = leading_digits(digits, 0, digits.len());
     if d.end < digits.len() {
-        return Mark::Wrong;
+        return Tick::Wrong;
     }
     if MOST_TICKS < d.value {
-        return Mark::Wrong;
+        return Tick::Wrong;
     }
-    Mark::Tick(d.value as u32)
+    Tick::Good(d.value as u32)
 }
 
-fn read_mark(field: &[u8]) -> Mark
-    ensures { λ r. ⌜ r ≡ readMark (now (field .entry)) ⌝ }
+fn read_tick(field: &[u8]) -> Tick
+    ensures { λ r. ⌜ r ≡ readTick (now (field .entry)) ⌝ }
 {
     if field.len() == 0 {
-        return Mark::Wrong;
+        return Tick::Wrong;
     }
     if field[0] == b'0' {
         if 1 < field.len() {
-            return Mark::Wrong;
+            return Tick::Wrong;
         }
     }
     if MOST_DIGITS < field.len() {
-        return Mark::Wrong;
+        return Tick::Wrong;
     }
     read_digits(field)
 }
 
-fn from_marks(used: usize, onset: Mark, peak: Mark, next: Mark) -> Line
-    ensures { λ r. ⌜ r ≡ fromMarks used onset peak next ⌝ }
+fn from_ticks(used: usize, onset: Tick, peak: Tick, next: Tick) -> Line
+    ensures { λ r. ⌜ r ≡ fromTicks used onset peak next ⌝ }
 {
-    let Mark::Tick(o) = onset else {
-        return Line::Refused(stop::MARK);
+    let Tick::Good(o) = onset else {
+        return Line::Refused(stop::TICK);
     };
-    let Mark::Tick(p) = peak else {
-        return Line::Refused(stop::MARK);
+    let Tick::Good(p) = peak else {
+        return Line::Refused(stop::TICK);
     };
-    let Mark::Tick(n) = next else {
-        return Line::Refused(stop::MARK);
+    let Tick::Good(n) = next else {
+        return Line::Refused(stop::TICK);
     };
     let b = Breath::between(o, p, n);
     Line::Read(Entry {
@@ -125,7 +125,7 @@ fn from_marks(used: usize, onset: Mark, peak: Mark, next: Mark) -> Line
 
 // What the line says, its line feed taken away, that used so many bytes.
 fn read_fields(used: usize, line: &[u8]) -> Line
-    ensures { λ r. ⌜ r ≡ fromFields used (fields (now (line .entry))) ⌝ }
+    ensures { λ r. ⌜ r ≡ fromFields used (lineFields (now (line .entry))) ⌝ }
 {
     let i = length_before(line, b'\t');
     if i == line.len() {
@@ -140,11 +140,11 @@ fn read_fields(used: usize, line: &[u8]) -> Line
     if length_before(last, b'\t') < last.len() {
         return Line::Refused(stop::FIELDS);
     }
-    from_marks(
+    from_ticks(
         used,
-        read_mark(&line[..i]),
-        read_mark(&rest[..j]),
-        read_mark(last),
+        read_tick(&line[..i]),
+        read_tick(&rest[..j]),
+        read_tick(last),
     )
 }
 
@@ -158,7 +158,7 @@ fn min(a: usize, b: usize) -> usize
 pub(crate) fn read_any(bytes: &[u8]) -> Line
     ensures { λ r. ⌜ r ≡ readLine (now (bytes .entry)) ⌝ }
 {
-    let most = min(bytes.len(), MOST_BYTES);
+    let most = min(bytes.len(), LONGEST_LINE);
     let head = &bytes[..most];
     let k = length_before(head, b'\n');
     if k == head.len() {
@@ -168,11 +168,11 @@ pub(crate) fn read_any(bytes: &[u8]) -> Line
 }
 
 // The tick mark from a place on that the byte `end` ends goes into the lent number; the answer is the
-// place behind both, or 0 where there is none. It has room: ten digits and that byte. (The next mark
-// is sought from a place in a register; the number isn't waited for.)
-fn read_start(bytes: &[u8], from: usize, end: u8, mark: &mut u32) -> usize
+// place behind both, or 0 where there is none. It has room: ten digits and that byte. (The next tick
+// is breath-found from a place in a register; the number isn't waited for.)
+fn read_tick_at(bytes: &[u8], from: usize, end: u8, tick: &mut u32) -> usize
     requires { ⌜ from + 11 ≤ length (now bytes) ⌝ }
-    ensures { λ r. ⌜ Opened (now (bytes .entry)) from end (now (mark .exit)) r ⌝ }
+    ensures { λ r. ⌜ TickFound (now (bytes .entry)) from end (now (tick .exit)) r ⌝ }
 {
     let d = leading_digits(bytes, from, from + MOST_DIGITS);
     let k = d.end;
@@ -190,30 +190,30 @@ fn read_start(bytes: &[u8], from: usize, end: u8, mark: &mut u32) -> usize
             return 0;
         }
     }
-    *mark = d.value as u32;
+    *tick = d.value as u32;
     k + 1
 }
 
-// The breath at the start of some bytes, in one pass. Where they hold the longest line, three marks of
-// ten digits and the bytes that end them, no mark runs out of them.
+// The breath at the start of some bytes, in one pass. Where they hold the longest line, three tick marks of
+// ten digits and the bytes that end them, none runs out of them.
 pub(crate) fn read_breath(bytes: &[u8]) -> Pass
-    ensures { λ r. ⌜ Sought (now (bytes .entry)) r ⌝ }
+    ensures { λ r. ⌜ BreathFound (now (bytes .entry)) r ⌝ }
 {
-    if bytes.len() < MOST_BYTES {
+    if bytes.len() < LONGEST_LINE {
         return Pass::Other;
     }
     let mut onset = 0;
     let mut peak = 0;
     let mut next = 0;
-    let second = read_start(bytes, 0, b'\t', &mut onset);
+    let second = read_tick_at(bytes, 0, b'\t', &mut onset);
     if second == 0 {
         return Pass::Other;
     }
-    let third = read_start(bytes, second, b'\t', &mut peak);
+    let third = read_tick_at(bytes, second, b'\t', &mut peak);
     if third == 0 {
         return Pass::Other;
     }
-    let behind = read_start(bytes, third, b'\n', &mut next);
+    let behind = read_tick_at(bytes, third, b'\n', &mut next);
     if behind == 0 {
         return Pass::Other;
     }

@@ -1,8 +1,8 @@
 // How long a breath's line is, found without its numbers: reading a recording through needs no more.
 ghost use Prim.Native.Nat.{_+_, _≤_};
 ghost use lib.ListN.{length};
-ghost use Rattle.recording.specs.Starts.{Ran, Passed, Spanned};
-use crate::line::MOST_BYTES;
+ghost use Rattle.recording.specs.Steps.{DigitsEnd, TickEndFound, LineLengthFound};
+use crate::line::LONGEST_LINE;
 
 // So many digits are no number above the largest tick mark.
 const SURE_DIGITS: usize = 9;
@@ -10,7 +10,7 @@ const SURE_DIGITS: usize = 9;
 // The place behind the digits from a place on, or the limit.
 fn digits_end(bytes: &[u8], from: usize, limit: usize) -> usize
     requires { ⌜ (from ≤ limit) × (limit ≤ length (now bytes)) ⌝ }
-    ensures { λ r. ⌜ Ran (now (bytes .entry)) from limit r ⌝ }
+    ensures { λ r. ⌜ DigitsEnd (now (bytes .entry)) from limit r ⌝ }
 {
     let mut i = from;
     while i < limit {
@@ -25,9 +25,9 @@ fn digits_end(bytes: &[u8], from: usize, limit: usize) -> usize
 
 // The place behind the tick mark from a place on and the byte `end` that ends it, or 0 where it isn't
 // found. Nine digits are no number above the largest; more are left to the reader of numbers.
-fn mark_end(bytes: &[u8], from: usize, end: u8) -> usize
+fn tick_end(bytes: &[u8], from: usize, end: u8) -> usize
     requires { ⌜ from + 11 ≤ length (now bytes) ⌝ }
-    ensures { λ r. ⌜ Passed (now (bytes .entry)) from end r ⌝ }
+    ensures { λ r. ⌜ TickEndFound (now (bytes .entry)) from end r ⌝ }
 {
     let k = digits_end(bytes, from, from + SURE_DIGITS);
     if bytes[k] != end {
@@ -46,18 +46,18 @@ fn mark_end(bytes: &[u8], from: usize, end: u8) -> usize
 
 // How many bytes the breath's line at the start of some bytes takes, or 0 where it isn't found.
 pub(crate) fn breath_length(bytes: &[u8]) -> usize
-    ensures { λ r. ⌜ Spanned (now (bytes .entry)) r ⌝ }
+    ensures { λ r. ⌜ LineLengthFound (now (bytes .entry)) r ⌝ }
 {
-    if bytes.len() < MOST_BYTES {
+    if bytes.len() < LONGEST_LINE {
         return 0;
     }
-    let second = mark_end(bytes, 0, b'\t');
+    let second = tick_end(bytes, 0, b'\t');
     if second == 0 {
         return 0;
     }
-    let third = mark_end(bytes, second, b'\t');
+    let third = tick_end(bytes, second, b'\t');
     if third == 0 {
         return 0;
     }
-    mark_end(bytes, third, b'\n')
+    tick_end(bytes, third, b'\n')
 }

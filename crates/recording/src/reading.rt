@@ -1,8 +1,8 @@
 // A recording line by line: what comes next, and reading it through.
 ghost use mathlib.Core.Path.{_≡_};
-ghost use Rattle.slash.specs.Answers.{stop, toldOutcome};
+ghost use Rattle.slash.specs.Answers.{stop, completionOutcome};
 ghost use Rattle.recording.specs.Reading.{nextOutcome, closing, nextOf, recordingCheck};
-ghost use Rattle.recording.specs.Starts.{nextLength};
+ghost use Rattle.recording.specs.Steps.{nextLength};
 use crate::line::Entry;
 use crate::line::Line;
 use crate::line::Pass;
@@ -10,11 +10,11 @@ use crate::line::read_any;
 use crate::line::read_breath;
 use crate::measure::breath_length;
 use crate::stop;
+use slash::Completion;
 use slash::Stop;
-use slash::Told;
 
-// The most lines of a recording.
-const MOST_LINES: u32 = 65536;
+// The most lines of a recording: one a breath.
+pub const MOST_LINES: u32 = 65536;
 
 // What comes next: a breath, the recording's end, or a stop.
 pub enum Next {
@@ -98,8 +98,8 @@ fn next_length(line: u32, bytes: &[u8]) -> Length
 }
 
 // Reads a recording through: the first bad line stops it.
-pub fn check(recording: &[u8]) -> Told
-    ensures { λ r. ⌜ toldOutcome r ≡ recordingCheck (now (recording .entry)) ⌝ }
+pub fn check(recording: &[u8]) -> Completion
+    ensures { λ r. ⌜ completionOutcome r ≡ recordingCheck (now (recording .entry)) ⌝ }
 {
     let mut line = 1;
     let mut from = 0;
@@ -110,10 +110,10 @@ pub fn check(recording: &[u8]) -> Told
                 from += used;
             }
             Length::End => {
-                return Told::Done;
+                return Completion::Done;
             }
             Length::Stopped(stop) => {
-                return Told::Stopped(stop);
+                return Completion::Stopped(stop);
             }
         }
     }

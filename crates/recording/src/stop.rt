@@ -10,7 +10,7 @@ pub(crate) const LONG: u32 = 9;
 pub(crate) const FIELDS: u32 = 10;
 
 // A field is not a tick mark.
-pub(crate) const MARK: u32 = 11;
+pub(crate) const TICK: u32 = 11;
 
 // No line at all.
 pub(crate) const EMPTY: u32 = 12;

@@ -1,4 +1,7 @@
--- Laws of outcomes, of tests, and of functions that go by cases. Assumes nothing.
+-- Outcomes, by their cases. Assumes nothing.
+-- `then-stop`, `then-done`: a stop ends the steps; a step that is done goes on to the next. `checked-stop`, `checked-made`: the same of a call
+-- that is a check first and then makes a word. `plain-stop`: `Stop::plain` names place 0. `completion-stop`, `written-stop` and their like: what
+-- an answer says, by its case.
 use mathlib.Core.Path.{_≡_, refl, sym, ap, ap₂, _∙_, subst}
 use mathlib.Core.Bool.{Bool, true, false, _&&_, false≢true}
 use Prim.Native.Nat.{ℕ, _≤_}
@@ -6,10 +9,11 @@ use native.Mathlib.Omega.{arith}
 use lib.Dec.{eqb}
 use borrow.Author.Tests.{ne-eqb}
 use Rattle.convergents.specs.Choice.{if_then_else_}
-use Rattle.slash.specs.Answers.{Outcome, stop, done, _then_, orZero, WhenDone, toldOutcome, writtenOutcome}
+use Rattle.slash.specs.Answers.{Outcome, stop, done, _then_, WhenDone, completionOutcome, writtenOutcome}
+use Rattle.slash.specs.Steps.{orZero}
 use Rattle.slash.specs.declared.answer.Stop.{Stop}
-use Rattle.slash.specs.declared.answer.Told.{Told}
-use Rattle.slash.specs.declared.answer.Told.the-variants as Told
+use Rattle.slash.specs.declared.answer.Completion.{Completion}
+use Rattle.slash.specs.declared.answer.Completion.the-variants as Completion
 use Rattle.slash.specs.declared.answer.Written.{Written}
 use Rattle.slash.specs.declared.answer.Written.the-variants as Written
 
@@ -42,12 +46,12 @@ module _ {A : Type 0} (x : A) where
   then-made (done u) e = refl
 
 -- what a call answered that makes nothing, by its case
-module _ {a : Told} {o : Outcome (Unit {0})} (h : toldOutcome a ≡ o) where
-  pub told-stop : {s : Stop} → a ≡ Told.Stopped s → stop (s .number) (s .place) ≡ o
-  told-stop e = sym (ap toldOutcome e) ∙ h
+module _ {a : Completion} {o : Outcome (Unit {0})} (h : completionOutcome a ≡ o) where
+  pub completion-stop : {s : Stop} → a ≡ Completion.Stopped s → stop (s .number) (s .place) ≡ o
+  completion-stop e = sym (ap completionOutcome e) ∙ h
 
-  pub told-done : a ≡ Told.Done → done tt ≡ o
-  told-done e = sym (ap toldOutcome e) ∙ h
+  pub completion-done : a ≡ Completion.Done → done tt ≡ o
+  completion-done e = sym (ap completionOutcome e) ∙ h
 
 -- what a call answered that makes a word
 module _ {a : Written} {o : Outcome ℕ} (h : writtenOutcome a ≡ o) where

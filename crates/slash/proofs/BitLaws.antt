@@ -1,4 +1,7 @@
--- Laws of the bits of a number: how many there are, and the fields of a word. Assumes nothing.
+-- The bits of a number. Assumes nothing.
+-- `least-power`: `leastPower` is the least whole number whose power of two is enough. `bit-count-lt`, `bit-count-le`, `bit-count-zero`: a bit
+-- count is the least number of bits, and 0 counts one. `fields-s` to `fields-z`, `fields-lt`: a word from its fields has these fields, and no
+-- bit above them.
 use mathlib.Core.Path.{_≡_, refl, sym, ap, _∙_, subst}
 use mathlib.Core.Bool.{Bool, true, false, _&&_, and-false}
 use Prim.Native.Nat.{ℕ, zero, suc, _+_, _-_, _*_, _/_, _%_, _^_, _≤_, _<_}
@@ -12,7 +15,7 @@ use lib.Pow.{pow-pos, pow-mono, pow-lt, pow-add, shr-shr}
 use lib.Bits.{bitAnd, bitOr, and-mask, and-le-l, and-le-r, or-lt, or-add-and}
 use lib.Count.{leadingZeros, leading-length}
 use borrow.Author.Tests.{leb-true, leb-false, le-leb, lt-leb}
-use Rattle.slash.specs.Bits.{leastFrom, leastPower, bitCount, bits, bit, bitOf, fields}
+use Rattle.slash.specs.Bits.{leastFrom, leastPower, bitCount, bits, bit, bitOf, wordOfFields}
 use Rattle.slash.proofs.AnswerLaws.{some-not}
 
 -- ---- powers of two
@@ -235,44 +238,44 @@ pack-bounds i j k s x y z P Q R eP eQ eR h hs hx hy hz =
     (omega arith, omega arith, omega arith)
 
 pub pack-is : (i j k s x y z P Q R : ℕ) → P ≡ 2 ^ i → Q ≡ 2 ^ j → R ≡ 2 ^ k
-    → ((s * P + x) * Q + y) * R + z ≡ fields s x i y j z k
-unfolding fields
+    → ((s * P + x) * Q + y) * R + z ≡ wordOfFields s x i y j z k
+unfolding wordOfFields
 pack-is i j k s x y z P Q R eP eQ eR = rw (eP, eQ, eR) refl
 
 -- the fields of a packed word
 module _ (s x i y j z k : ℕ) (hs : s < 2) (hx : x < 2 ^ i) (hy : y < 2 ^ j) (hz : z < 2 ^ k) where
-  above-z : fields s x i y j z k / 2 ^ k ≡ (s * 2 ^ i + x) * 2 ^ j + y
-  unfolding fields
+  above-z : wordOfFields s x i y j z k / 2 ^ k ≡ (s * 2 ^ i + x) * 2 ^ j + y
+  unfolding wordOfFields
   above-z = digits-div _ hz
 
-  above-y : fields s x i y j z k / 2 ^ (k + j) ≡ s * 2 ^ i + x
+  above-y : wordOfFields s x i y j z k / 2 ^ (k + j) ≡ s * 2 ^ i + x
   above-y = sym (shr-shr _ k j) ∙ ap (λ (w : ℕ). w / 2 ^ j) above-z ∙ digits-div _ hy
 
-  above-x : fields s x i y j z k / 2 ^ (k + j + i) ≡ s
+  above-x : wordOfFields s x i y j z k / 2 ^ (k + j + i) ≡ s
   above-x = sym (shr-shr _ (k + j) i) ∙ ap (λ (w : ℕ). w / 2 ^ i) above-y ∙ digits-div _ hx
 
-  pub fields-z : bits 0 k (fields s x i y j z k) ≡ z
-  unfolding bits fields
+  pub fields-z : bits 0 k (wordOfFields s x i y j z k) ≡ z
+  unfolding bits wordOfFields
   fields-z = ap (λ (w : ℕ). w % 2 ^ k) (div-one _) ∙ digits-mod _ hz
 
-  pub fields-y : bits k j (fields s x i y j z k) ≡ y
+  pub fields-y : bits k j (wordOfFields s x i y j z k) ≡ y
   unfolding bits
   fields-y = ap (λ (w : ℕ). w % 2 ^ j) above-z ∙ digits-mod _ hy
 
   -- the places above these are sums, however they are written
-  pub fields-x : (p : ℕ) → p ≡ k + j → bits p i (fields s x i y j z k) ≡ x
+  pub fields-x : (p : ℕ) → p ≡ k + j → bits p i (wordOfFields s x i y j z k) ≡ x
   unfolding bits
   fields-x p e = rw e (ap (λ (w : ℕ). w % 2 ^ i) above-y ∙ digits-mod _ hx)
 
-  pub fields-s : (p : ℕ) → p ≡ k + j + i → bits p 1 (fields s x i y j z k) ≡ s
+  pub fields-s : (p : ℕ) → p ≡ k + j + i → bits p 1 (wordOfFields s x i y j z k) ≡ s
   unfolding bits
   fields-s p e = rw e (ap (λ (w : ℕ). w % 2 ^ 1) above-x ∙ mod-eq-of-lt hs)
 
-  pub fields-lt : (p : ℕ) → p ≡ k + j + i + 1 → fields s x i y j z k < 2 ^ p
+  pub fields-lt : (p : ℕ) → p ≡ k + j + i + 1 → wordOfFields s x i y j z k < 2 ^ p
   fields-lt p e =
-      let g : fields s x i y j z k / 2 ^ (k + j + i) < 2 = rw above-x hs in
+      let g : wordOfFields s x i y j z k / 2 ^ (k + j + i) < 2 = rw above-x hs in
       rw e
-      (omega (arith, pow-next (k + j + i), div-lt-iff-lt-mul {k = 2 ^ (k + j + i)} {x = fields s x i y j z k} {y = 2} (pow-pos (k + j + i)) .0 g))
+      (omega (arith, pow-next (k + j + i), div-lt-iff-lt-mul {k = 2 ^ (k + j + i)} {x = wordOfFields s x i y j z k} {y = 2} (pow-pos (k + j + i)) .0 g))
 
 pub bit-back : (b : Bool) (from w : ℕ) → bits from 1 w ≡ bitOf b → bit from w ≡ b
 unfolding bit bitOf

@@ -1,4 +1,7 @@
--- Laws of formats: what a known format says of its k, and that each is a limit. Assumes nothing.
+-- Formats. Assumes nothing.
+-- `format-limit`: every known format is a limit: it holds 1/1, and with a pair every pair with no larger numerator and no larger nonzero
+-- denominator. `largest-held`, `largest-most`: its largest part is held on each side, and no held pair has a larger one.
+-- `width-range`: a word has from 1 to 64 bits. `known-k`, `fixed-k`: the bounds of k.
 use mathlib.Core.Path.{_≡_, refl, sym, ap, ap₂, _∙_}
 use mathlib.Core.Bool.{Bool, true, false, _&&_, _||_}
 use Prim.Native.Nat.{ℕ, zero, suc, _+_, _-_, _*_, _^_, _≤_, _<_}
@@ -11,13 +14,13 @@ use borrow.Author.Tests.{leb-true, eqb-true, le-leb, eq-eqb, ne-eqb}
 use Rattle.convergents.specs.Pairs.{pair}
 use Rattle.convergents.specs.Rounding.{Limit, held}
 use Rattle.convergents.proofs.Optimal.{held-is}
-use Rattle.slash.specs.Answers.{stop, done, toldOutcome}
+use Rattle.slash.specs.Answers.{stop, done, completionOutcome}
 use Rattle.slash.specs.Bits.{bitCount}
 use Rattle.slash.specs.Formats.{isFixed, isFloating, kFits, known, checkFormat, ofKnown, formatOf, makeFormat, slashBits, widthOf, holds, largestPart}
-use Rattle.slash.specs.declared.answer.Told.{Told}
-use Rattle.slash.specs.declared.answer.Told.the-variants as Told
+use Rattle.slash.specs.declared.answer.Completion.{Completion}
+use Rattle.slash.specs.declared.answer.Completion.the-variants as Completion
 use Rattle.slash.specs.declared.format.Format.{Format}
-use Rattle.slash.proofs.AnswerLaws.{no-stop, then-stop, told-done, and-parts}
+use Rattle.slash.proofs.AnswerLaws.{no-stop, then-stop, completion-done, and-parts}
 use Rattle.slash.proofs.BitLaws.{or-most, least-power, least-count, bit-count-lt, bit-count-le, bit-count-pos, bit-count-mono}
 
 -- ---- the check of a format
@@ -39,8 +42,8 @@ module _ (f : Format) where
       go true h = h
       go false h = absurd (no-stop (format-refused h ∙ sym e))
 
-  pub told-known : {a : Told} → toldOutcome a ≡ checkFormat f → a ≡ Told.Done → known f ≡ true
-  told-known h e = good-known (told-done h e)
+  pub completion-known : {a : Completion} → completionOutcome a ≡ checkFormat f → a ≡ Completion.Done → known f ≡ true
+  completion-known h e = good-known (completion-done h e)
 
 -- and what it stops is stopped so
 module _ {A : Type 0} (f : Format) (x : A) where

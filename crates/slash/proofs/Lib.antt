@@ -1,10 +1,12 @@
--- The laws that the functions' proofs cite.
+-- The laws that the functions' proofs cite, and what follows from the definitions.
 pub mod AnswerLaws
 pub mod BitLaws
 pub mod FormatLaws
 pub mod RoundingLaws
-pub mod WordLaws
+pub mod ReadingLaws
+pub mod FieldLaws
 pub mod RoundTrip
-pub mod WriteLaws
+pub mod WritingLaws
 pub mod Recompose
-pub mod Canonical
+pub mod CanonicalLaws
+pub mod WordLaws

@@ -1,4 +1,6 @@
--- A word is made of its fields: what was read as a fraction is written back as it was. Assumes nothing.
+-- A word is made of its fields. Assumes nothing.
+-- `fixed-whole`, `floating-whole`: a good word is made of its fields. `fractional`: what a word says as a fraction is held, and its parts make
+-- that word again.
 use mathlib.Core.Path.{_≡_, refl, sym, ap, _∙_, subst}
 use mathlib.Core.Logic.{_⊎_, inl, inr}
 use mathlib.Core.Bool.{Bool, true}
@@ -12,10 +14,11 @@ use borrow.Author.Tests.{le-leb, lt-leb, leb-false, ne-eqb}
 use Rattle.convergents.specs.Choice.{if_then_else_}
 use Rattle.convergents.specs.Pairs.{pair}
 use Rattle.slash.specs.Answers.{done}
-use Rattle.slash.specs.Bits.{bitCount, bits, bit, bitOf, fields}
+use Rattle.slash.specs.Bits.{bitCount, bits, bit, bitOf, wordOfFields}
 use Rattle.slash.specs.Formats.{known, slashBits, widthOf}
-use Rattle.slash.specs.Words.{fixedValue, fixedNumber, slashPosition, floatingFraction, floatingSpecial, floatingNumber, numberOf, isAbove, checkWord, fixedWord, floatingWord, floatingPair, pairWord}
-use Rattle.slash.specs.Canonical.{HeldParts}
+use Rattle.slash.specs.Reading.{fixedValue, fixedNumber, slashPosition, floatingFraction, floatingSpecial, floatingNumber, numberOf, isAbove, checkWord}
+use Rattle.slash.specs.Writing.{fixedWord, floatingWord, floatingPair, pairWord}
+use Rattle.slash.specs.Steps.{HeldParts}
 use Rattle.slash.specs.declared.format.Format.{Format}
 use Rattle.slash.specs.declared.number.Parts.{Parts}
 use Rattle.slash.specs.declared.number.Value.{Value}
@@ -23,13 +26,13 @@ use Rattle.slash.specs.declared.number.Value.the-variants.{Fraction, Zer
 use Rattle.slash.specs.declared.number.Number.{Number}
 use Rattle.slash.proofs.BitLaws.{pow-next, bits-lt, bit-count-is, bit-count-le}
 use Rattle.slash.proofs.FormatLaws.{known-k, width-fixed, width-floating, holds-both, holds-sum}
-use Rattle.slash.proofs.WordLaws.{fixed-zero, fixed-nan-zero, fixed-infinity, fixed-nan-infinity, fixed-fraction, floating-zero, floating-fraction, special-infinity, special-nan, number-fixed, number-floating, checked-below}
+use Rattle.slash.proofs.ReadingLaws.{fixed-zero, fixed-nan-zero, fixed-infinity, fixed-nan-infinity, fixed-fraction, floating-zero, floating-fraction, special-infinity, special-nan, number-fixed, number-floating, checked-below}
 use Rattle.slash.proofs.RoundTrip.{word-fixed, word-floating}
 
 -- a word of no more bits than its fields is its fields
 pub recompose : (i j k w : ℕ) → w < 2 ^ (k + j + i + 1)
-    → fields (bits (k + j + i) 1 w) (bits (k + j) i w) i (bits k j w) j (bits 0 k w) k ≡ w
-unfolding fields bits
+    → wordOfFields (bits (k + j + i) 1 w) (bits (k + j) i w) i (bits k j w) j (bits 0 k w) k ≡ w
+unfolding wordOfFields bits
 recompose i j k w h =
     let low : w / 2 ^ 0 ≡ w = div-one w in
     let top : w / 2 ^ (k + j + i) < 2 = div-lt-iff-lt-mul {k = 2 ^ (k + j + i)} {x = w} {y = 2} (pow-pos (k + j + i)) .1 (omega (arith, pow-next (k + j + i))) in

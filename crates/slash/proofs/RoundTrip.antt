@@ -1,4 +1,6 @@
 -- Reading what was written. Assumes nothing.
+-- `pair-says`: the word of a held pair earns no stop and is read as that pair, with its sign and mark. `nan-says`: the word of not-a-number is
+-- read as not-a-number.
 use mathlib.Core.Path.{_≡_, refl, sym, ap, _∙_, subst}
 use mathlib.Core.Bool.{Bool, true, false}
 use Prim.Native.Nat.{ℕ, _+_, _-_, _*_, _/_, _%_, _^_, _≤_, _<_}
@@ -11,15 +13,19 @@ use borrow.Author.Tests.{le-leb, lt-leb, eq-eqb, ne-eqb}
 use Rattle.convergents.specs.Pairs.{pair}
 use Rattle.convergents.specs.Rounding.{held}
 use Rattle.slash.specs.Answers.{done}
-use Rattle.slash.specs.Bits.{bitCount, bits, bit, bitOf, fields}
+use Rattle.slash.specs.Bits.{bitCount, bits, bit, bitOf, wordOfFields}
 use Rattle.slash.specs.Formats.{known, slashBits, widthOf, holds}
-use Rattle.slash.specs.Words.{fixedValue, fixedNumber, slashPosition, slashUndefined, floatingFraction, floatingSpecial, floatingNumber, numberOf, isAbove, checkWord, readWord, fixedWord, floatingWord, floatingPair, floatingNan, pairWord, nanWord, valueOf, pairOf}
+use Rattle.slash.specs.Reading.{fixedValue, fixedNumber, slashPosition, slashUndefined, floatingFraction, floatingSpecial, floatingNumber, numberOf, isAbove, checkWord, readWord}
+use Rattle.slash.specs.Writing.{fixedWord, floatingWord, floatingPair, floatingNan, pairWord, nanWord}
+use Rattle.slash.specs.Steps.{valueOf}
+use Rattle.slash.specs.Numbers.{pairOf}
 use Rattle.slash.specs.declared.format.Format.{Format}
 use Rattle.slash.specs.declared.number.Value.the-variants.{Fraction, Zero, Infinity, NotANumber}
 use Rattle.slash.specs.declared.number.Number.{Number}
 use Rattle.slash.proofs.BitLaws.{bit-lt, bit-back, bit-count-pos, bit-count-top, bit-count-rest, fields-z, fields-y, fields-x, fields-s, fields-lt}
 use Rattle.slash.proofs.FormatLaws.{known-k, fixed-parts, floating-parts, slash-bits-enough, slash-bits-pos, width-fixed, width-floating}
-use Rattle.slash.proofs.WordLaws.{fixed-zero, fixed-nan-zero, fixed-infinity, fixed-fraction, floating-zero, floating-fraction, special-infinity, special-nan, undefined-below, pair-field, pair-slash, check-fixed, check-floating, number-fixed, number-floating, checked-read}
+use Rattle.slash.proofs.ReadingLaws.{fixed-zero, fixed-nan-zero, fixed-infinity, fixed-fraction, floating-zero, floating-fraction, special-infinity, special-nan, undefined-below, check-fixed, check-floating, number-fixed, number-floating, checked-read}
+use Rattle.slash.proofs.FieldLaws.{pair-field, pair-slash}
 
 -- ---- the value of a pair
 
@@ -274,7 +280,7 @@ module _ (f : Format) where
     Nan w = Says f w (record { value = NotANumber; approximate = false })
 
     fixed-nan : f .kind ≡ 1 → Nan 0
-    unfolding fixedWord fields bitOf
+    unfolding fixedWord wordOfFields bitOf
     fixed-nan e =
         let z : fixedWord (f .k) 0 0 0 0 ≡ 0 = omega (arith, zero-mul (2 ^ f .k)) in
         let b = pow-pos (f .k) in

@@ -1,4 +1,6 @@
--- Laws of rounding into a format. Assumes nothing.
+-- Rounding into a format. Assumes nothing.
+-- `rounds-is`: what the loop comes to is the rounding, and the best pair. `held-exact`: what is held is rounded to its own value, without a mark.
+-- `ratio-refused`, `ratio-zero`, `ratio-done`: the answers of `round`.
 use mathlib.Core.Path.{_≡_, refl, sym, ap, _∙_}
 use mathlib.Core.Bool.{Bool, true, false}
 use Prim.Native.Nat.{ℕ, _≤_}
@@ -8,8 +10,8 @@ use Rattle.convergents.specs.Pairs.{Pair, pair, miss, differs}
 use Rattle.convergents.specs.Rounding.{round}
 use Rattle.convergents.specs.Best.{Best}
 use Rattle.convergents.proofs.Optimal.{held-is}
-use Rattle.convergents.proofs.Theorem.{round-exact}
-use Rattle.convergents.proofs.Loop.{Rounds, differs-not}
+use Rattle.convergents.proofs.BestLaws.{round-exact}
+use Rattle.convergents.proofs.RoundingLaws.{Rounds, differs-not}
 use Rattle.slash.specs.Answers.{stop, done}
 use Rattle.slash.specs.Formats.{known, checkFormat, holds}
 use Rattle.slash.specs.Rounding.{rounded, roundRatio}

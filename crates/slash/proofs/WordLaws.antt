@@ -1,345 +1,116 @@
--- Laws of reading and writing words, one for each way through the code. Assumes nothing.
+-- What a value is written as, read back, for every format and every value that isn't over 0. Assumes nothing.
+-- `word-value`: a fraction is rounded, its sign kept; zero, infinity and not-a-number are kept as such. `word-rounded`: demand 2, the word's pair
+-- is the value's last convergent that the format holds. `word-mark`: the mark is 1 if it was or rounding changed the value, and 0 on
+-- not-a-number. `word-exact`: so it stays as it was where rounding doesn't mark. `word-sign`: the sign is kept through underflow and overflow.
 use mathlib.Core.Path.{_≡_, refl, sym, ap, _∙_}
-use mathlib.Core.Bool.{Bool, true, false, _&&_}
-use Prim.Native.Nat.{ℕ, _+_, _-_, _*_, _/_, _%_, _^_, _≤_, _<_}
+use mathlib.Core.Bool.{Bool, true, false, _||_, or-false}
+use Prim.Native.Nat.{ℕ}
 use native.Mathlib.Omega.{arith}
-use native.Mathlib.Nat.{le-div-iff-mul-le, div-lt-iff-lt-mul, div-add-mod', mod-eq-of-lt}
-use lib.Dec.{leb, eqb}
-use lib.Arith.{digits-lt}
-use lib.Pow.{pow-pos, pow-mono, pow-add, shr-shr}
-use borrow.Author.Tests.{le-leb, lt-leb, leb-true, leb-false, eq-eqb, ne-eqb}
-use Rattle.slash.specs.Answers.{Outcome, stop, done, _then_, checkOutcome}
-use Rattle.slash.specs.Bits.{bitCount, bits, bit, fields}
-use Rattle.slash.specs.Formats.{kFits, known, checkFormat, slashBits, widthOf}
-use Rattle.slash.specs.Words.{fixedValue, fixedNumber, slashPosition, slashUndefined, floatingFraction, floatingSpecial, floatingNumber, numberOf, isAbove, checkWord, goodWord, checkedWord, readWord, fieldsOf, numberIn, fieldsIn, fixedFields, floatingFields, fixedWord, floatingWord, floatingPair}
-use Rattle.slash.specs.declared.answer.Stop.{Stop}
-use Rattle.slash.specs.declared.fields.Fields.the-variants.{Fixed, Floating}
+use lib.Dec.{eqb}
+use Rattle.convergents.specs.Choice.{if_then_else_}
+use Rattle.convergents.specs.Pairs.{Pair, differs}
+use Rattle.convergents.specs.Rounding.{round}
+use Rattle.convergents.proofs.Optimal.{one-held, zero-held}
+use Rattle.convergents.proofs.BestLaws.{round-best, round-lowest, best-is-round}
+use Rattle.slash.specs.Formats.{known, holds}
+use Rattle.slash.specs.Rounding.{rounded}
+use Rattle.slash.specs.Reading.{numberOf}
+use Rattle.slash.specs.Writing.{wordFor, isOverZero}
+use Rattle.slash.specs.Numbers.{isNan, partsOf, pairOf}
+use Rattle.slash.specs.Steps.{valueOf}
+use Rattle.slash.specs.Best.{ExactSize, _over_, none, sizeOf, BestForRatio, BestForValue}
 use Rattle.slash.specs.declared.format.Format.{Format}
 use Rattle.slash.specs.declared.number.Value.{Value}
 use Rattle.slash.specs.declared.number.Value.the-variants.{Fraction, Zero, Infinity, NotANumber}
 use Rattle.slash.specs.declared.number.Number.{Number}
-use Rattle.slash.specs.declared.reading.Checked.{Checked}
-use Rattle.slash.specs.declared.reading.Checked.the-variants as Checked
-use Rattle.slash.specs.declared.reading.GoodWord.{GoodWord}
-use Rattle.slash.proofs.AnswerLaws.{done-inj, no-stop, then-stop, then-stopped, then-made}
-use Rattle.slash.proofs.BitLaws.{pow-before, bit-count-lt, bit-count-pos, bit-count-top, bit-count-rest}
-use Rattle.slash.proofs.FormatLaws.{format-good, good-known, known-fits, slash-bits-enough}
+use Rattle.slash.proofs.AnswerLaws.{if-case}
+use Rattle.slash.proofs.FormatLaws.{format-limit}
+use Rattle.slash.proofs.RoundTrip.{zero-proper, infinity-proper, Says, pair-says, nan-says}
+use Rattle.slash.proofs.WritingLaws.{lowest-proper, over-some, word-best}
 
--- ---- fixed words
+-- Finite values are rounded, the sign is kept; zero, infinity and not-a-number are kept as such.
+abbrev pub writtenValue : Format → Value → Value
+writtenValue f (Fraction p) = valueOf (p .negative) (round (holds f) (p .numerator) (p .denominator))
+writtenValue f (Zero s) = Zero s
+writtenValue f (Infinity s) = Infinity s
+writtenValue f NotANumber = NotANumber
 
-module _ (s : Bool) (n d : ℕ) where
-  pub fixed-zero : n ≡ 0 → d % 2 ≡ 1 → Zero s ≡ fixedValue s n d
-  unfolding fixedValue
-  fixed-zero h g = rw (eq-eqb _ _ h, eq-eqb _ _ g) refl
+-- The pair of the word w is N/D cut to its last convergent that the format holds; of a result that isn't finite it says nothing.
+abbrev pub RoundedTo : Format → ExactSize → ℕ → Type 0
+RoundedTo f (N over D) w = pairOf (numberOf f w .value) ≡ round (holds f) N D
+RoundedTo f none w = Unit {0}
 
-  pub fixed-nan-zero : n ≡ 0 → (d % 2 ≡ 1 → ⊥) → NotANumber ≡ fixedValue s n d
-  unfolding fixedValue
-  fixed-nan-zero h g = rw (eq-eqb _ _ h, ne-eqb _ _ g) refl
+-- Rounding changed the value: the pair of the word w isn't N/D. What isn't finite isn't rounded.
+abbrev pub changed : Format → ExactSize → ℕ → Bool
+changed f (N over D) w = differs N D (pairOf (numberOf f w .value))
+changed f none w = false
 
-  pub fixed-infinity : (n ≡ 0 → ⊥) → d ≡ 0 → n % 2 ≡ 1 → Infinity s ≡ fixedValue s n d
-  unfolding fixedValue
-  fixed-infinity h g e = rw (ne-eqb _ _ h, eq-eqb _ _ g, eq-eqb _ _ e) refl
+-- Whether rounding marks a value that is written.
+abbrev pub marks : Format → Value → Bool
+marks f (Fraction p) = rounded f (p .numerator) (p .denominator) .approximate
+marks f (Zero s) = false
+marks f (Infinity s) = false
+marks f NotANumber = false
 
-  pub fixed-nan-infinity : (n ≡ 0 → ⊥) → d ≡ 0 → (n % 2 ≡ 1 → ⊥) → NotANumber ≡ fixedValue s n d
-  unfolding fixedValue
-  fixed-nan-infinity h g e = rw (ne-eqb _ _ h, eq-eqb _ _ g, ne-eqb _ _ e) refl
+value-sign : (s : Bool) (x : Pair) → partsOf (valueOf s x) .negative ≡ s
+unfolding valueOf
+value-sign s x =
+    if-case (λ v. partsOf v .negative ≡ s) (eqb (x .denominator) 0) _ _ (λ e. refl)
+    (λ e. if-case (λ v. partsOf v .negative ≡ s) (eqb (x .numerator) 0) _ _ (λ g. refl) (λ g. refl))
 
-  pub fixed-fraction : (n ≡ 0 → ⊥) → (d ≡ 0 → ⊥) → Fraction (record { negative = s; numerator = n; denominator = d }) ≡ fixedValue s n d
-  unfolding fixedValue
-  fixed-fraction h g = rw (ne-eqb _ _ h, ne-eqb _ _ g) refl
+module _ (f : Format) (h : known f ≡ true) where
+  -- the mark of what is written, and the whole number with it
+  abbrev markIn : Bool → Value → Bool
+  markIn a v = if isNan v then false else a || marks f v
 
--- the sign lies k bits above the numerator's lowest
-sign-bit : (k w : ℕ) → bit k (w / 2 ^ (k + 1)) ≡ bit (2 * k + 1) w
-unfolding bit bits
-sign-bit k w =
-    let e : k + 1 + k ≡ 2 * k + 1 = omega arith in
-    let h : w / 2 ^ (k + 1) / 2 ^ k ≡ w / 2 ^ (2 * k + 1) = shr-shr w (k + 1) k ∙ ap (λ (j : ℕ). w / 2 ^ j) e in
-    ap (λ (x : ℕ). eqb (x % 2 ^ 1) 1) h
+  word-says : (a : Bool) (v : Value) → isOverZero v ≡ false → Says f (wordFor f a v) (record { value = writtenValue f v; approximate = markIn a v })
+  unfolding wordFor isOverZero isNan valueOf
+  word-says a (Fraction p) z =
+      let N : ℕ = p .numerator in
+      let D : ℕ = p .denominator in
+      let b = round-best (holds f) (format-limit f h) N D (over-some (Fraction p) p refl z) in
+      pair-says f (p .negative) _ _ _ h (b .isHeld) (lowest-proper _ _ (round-lowest (holds f) (format-limit f h) N D))
+  word-says a (Zero s) z = rw (or-false a) (pair-says f s a 0 1 h (zero-held (holds f) (format-limit f h)) zero-proper)
+  word-says a (Infinity s) z = rw (or-false a) (pair-says f s a 1 0 h (one-held (holds f)) infinity-proper)
+  word-says a NotANumber z = nan-says f h
 
-pub fixed-number : (k w : ℕ) (s : Bool) (n d : ℕ) (v : Value) → s ≡ bit k (w / 2 ^ (k + 1)) → n ≡ bits (k + 1) k w → d ≡ bits 0 k w
-    → v ≡ fixedValue s n d → v ≡ fixedNumber k w .value
-unfolding fixedNumber
-fixed-number k w s n d v se ne de ve = rw (ve, se, sign-bit k w, ne, de) refl
+  module _ (a : Bool) (v : Value) (z : isOverZero v ≡ false) where
+    -- Finite values are rounded, the sign is kept; zero, infinity and not-a-number are kept as such.
+    pub word-value : numberOf f (wordFor f a v) .value ≡ writtenValue f v
+    word-value = ap (λ (x : Number). x .value) (word-says a v z .number)
 
-pub fixed-word : (k s t n a b d r : ℕ) → t ≡ s → b ≡ a → r ≡ fields t n k b 1 d k → r ≡ fixedWord k s n a d
-unfolding fixedWord
-fixed-word k s t n a b d r te be e = e ∙ rw (te, be) refl
+    -- Where rounding doesn't mark, the mark is as it was, and 0 on not-a-number.
+    pub word-exact : marks f v ≡ false → numberOf f (wordFor f a v) .approximate ≡ (if isNan v then false else a)
+    word-exact e = ap (λ (x : Number). x .approximate) (word-says a v z .number) ∙ rw (e, or-false a) refl
 
-pub fixed-fields : (k w : ℕ) {s a : Bool} {n d : ℕ} → s ≡ bit (2 * k + 1) w → n ≡ bits (k + 1) k w → a ≡ bit k w → d ≡ bits 0 k w
-    → record { negative = s; numerator = n; approximate = a; denominator = d } ≡ fixedFields k w
-fixed-fields k w se ne ae de = rw (se, ne, ae, de) refl
-
--- ---- floating words
-
-pub floating-fields-are : (k w : ℕ) {l e f : ℕ} {s a : Bool} → l ≡ slashBits k → s ≡ bit (k + l) w → a ≡ bit (k + l - 1) w → e ≡ slashPosition k w
-    → f ≡ bits 0 (k - 1) w → record { negative = s; approximate = a; position = e; field = f } ≡ floatingFields k w
-floating-fields-are k w le se ae ee fe = rw (se, ae, ee, fe, le) refl
-
-pub slash-is : (k w l r : ℕ) → l ≡ slashBits k → r ≡ bits (k - 1) l w → r ≡ slashPosition k w
-unfolding slashPosition
-slash-is k w l r le e = e ∙ rw le refl
-
-module _ (k w e : ℕ) (h : e ≡ slashPosition k w) where
-  pub undefined-is : (l p : ℕ) → l ≡ slashBits k → p ≡ 2 ^ l → (leb (k - 1) e && leb e (p - 2)) ≡ slashUndefined k w
-  unfolding slashUndefined
-  undefined-is l p le pe = rw (← h, pe, le) refl
-
-  pub undefined-below : e < k - 1 → false ≡ slashUndefined k w
-  unfolding slashUndefined
-  undefined-below l = rw (← h, lt-leb _ _ l) refl
-
-module _ (s : Bool) (e f : ℕ) where
-  pub floating-zero : f / 2 ^ e ≡ 0 → Zero s ≡ floatingFraction s e f
-  unfolding floatingFraction
-  floating-zero g = rw (eq-eqb _ _ g) refl
-
-  pub floating-fraction : (f / 2 ^ e ≡ 0 → ⊥) → Fraction (record { negative = s; numerator = f / 2 ^ e; denominator = f % 2 ^ e + 2 ^ e }) ≡ floatingFraction s e f
-  unfolding floatingFraction
-  floating-fraction g = rw (ne-eqb _ _ g) refl
-
-  -- the code takes all of f but n - 1 times 2^e away, n the numerator
-  module _ (g : f / 2 ^ e ≡ 0 → ⊥) where
-    whole : f ≡ (f / 2 ^ e - 1) * 2 ^ e + 2 ^ e + f % 2 ^ e
-    whole =
-        let i : f / 2 ^ e ≡ f / 2 ^ e - 1 + 1 = omega arith in
-        omega (arith, div-add-mod' f (2 ^ e), ap (λ (n : ℕ). n * 2 ^ e) i)
-
-    module _ (l : f < 2 ^ 31) where
-      shifted : (f / 2 ^ e - 1) * 2 ^ e % 2 ^ 64 ≡ (f / 2 ^ e - 1) * 2 ^ e
-      shifted = mod-eq-of-lt (omega (arith, whole))
-
-      pub parted-most : (f / 2 ^ e - 1) * 2 ^ e % 2 ^ 64 ≤ f
-      parted-most = omega (arith, whole, shifted)
-
-      pub parted-fraction : Fraction (record { negative = s; numerator = f / 2 ^ e; denominator = f - (f / 2 ^ e - 1) * 2 ^ e % 2 ^ 64 }) ≡ floatingFraction s e f
-      unfolding floatingFraction
-      parted-fraction =
-          let d : f - (f / 2 ^ e - 1) * 2 ^ e % 2 ^ 64 ≡ f % 2 ^ e + 2 ^ e = omega (arith, whole, shifted) in
-          rw (d, ne-eqb _ _ g) refl
-
-module _ (s : Bool) (f : ℕ) where
-  pub special-infinity : f % 2 ≡ 0 → Infinity s ≡ floatingSpecial s f
-  unfolding floatingSpecial
-  special-infinity h = rw (eq-eqb _ _ h) refl
-
-  pub special-nan : (f % 2 ≡ 0 → ⊥) → NotANumber ≡ floatingSpecial s f
-  unfolding floatingSpecial
-  special-nan h = rw (ne-eqb _ _ h) refl
-
-module _ (k w l : ℕ) (s : Bool) (e f : ℕ) (v : Value) (le : l ≡ slashBits k) (se : s ≡ bit (k + l) w)
-    (ee : e ≡ slashPosition k w) (fe : f ≡ bits 0 (k - 1) w) where
-  pub floating-number : e ≤ k - 2 → v ≡ floatingFraction s e f → v ≡ floatingNumber k w .value
-  unfolding floatingNumber
-  floating-number h ve = rw (← le, ← se, ← ee, ← fe, le-leb _ _ h, ve) refl
-
-  pub floating-special : k - 2 < e → v ≡ floatingSpecial s f → v ≡ floatingNumber k w .value
-  unfolding floatingNumber
-  floating-special h ve = rw (← le, ← se, ← ee, ← fe, lt-leb _ _ h, ve) refl
-
-pub floating-mark : (k w l : ℕ) (a : Bool) → l ≡ slashBits k → a ≡ bit (k + l - 1) w → a ≡ floatingNumber k w .approximate
-unfolding floatingNumber
-floating-mark k w l a le e = rw (← le, e) refl
-
--- the special slash position fits
-pub special-lt : (k r : ℕ) → r ≡ 2 ^ slashBits k - 1 → r < 2 ^ slashBits k
-special-lt k r e = omega (arith, pow-pos (slashBits k))
-
-pub floating-fields : (k s a e f l r : ℕ) → l ≡ slashBits k → r ≡ fields s a 1 e l f (k - 1) → r ≡ floatingWord k s a e f
-unfolding floatingWord
-floating-fields k s a e f l r le re = re ∙ rw le refl
-
-module _ (k s a n d : ℕ) where
-  pub pair-infinity : d ≡ 0 → (t b e r : ℕ) → t ≡ s → b ≡ a → e ≡ 2 ^ slashBits k - 1 → r ≡ floatingWord k t b e 0 → r ≡ floatingPair k s a n d
-  unfolding floatingPair
-  pair-infinity z t b e r te be ee re = rw (eq-eqb _ _ z, re, te, be, ee) refl
-
-  pub pair-fraction : (d ≡ 0 → ⊥) → (t b c p r : ℕ) → t ≡ s → b ≡ a → c ≡ bitCount d → p ≡ 2 ^ (c - 1)
-      → r ≡ floatingWord k t b (c - 1) (n * p + (d - p)) → r ≡ floatingPair k s a n d
-  unfolding floatingPair
-  pair-fraction z t b c p r te be ce pe re = rw (ne-eqb _ _ z, re, te, be, pe, ce) refl
-
--- the field of n/d fits k - 1 bits, and the slash position L bits
-module _ (k n d : ℕ) (pos : 1 ≤ d) (h : bitCount n + bitCount d ≤ k) where
-  pub pair-field : n * 2 ^ (bitCount d - 1) + (d - 2 ^ (bitCount d - 1)) < 2 ^ (k - 1)
-  pair-field =
-      let e : ℕ = bitCount d - 1 in
-      let all : n * 2 ^ e + (d - 2 ^ e) < 2 ^ bitCount n * 2 ^ e = digits-lt (bit-count-lt n) (bit-count-rest d pos) in
-      let g : bitCount n + e ≤ k - 1 = omega (arith, bit-count-pos d) in
-      omega (arith, pow-add 2 (bitCount n) e, pow-mono g)
-
-  pub pair-slash : bitCount d - 1 < 2 ^ slashBits k
-  pair-slash = omega (arith, bit-count-pos n, bit-count-pos d, slash-bits-enough k)
-
--- the same, of what the code has: the bit count c of d, and the power p of the slash position
-pub record Parted (k n d c p : ℕ) : Type 0 where
-  pub low : 1 ≤ c
-  pub high : c ≤ 32
-  pub leading : p ≤ d
-  pub position : c - 1 < 2 ^ slashBits k
-  pub fits : n * p + (d - p) < 2 ^ (k - 1)
-  pub small : n * p + (d - p) < 2 ^ 32
-
-pub parted : (k n d c p : ℕ) → k ≤ 32 → 1 ≤ d → bitCount n + bitCount d ≤ k → c ≡ bitCount d → p ≡ 2 ^ (c - 1) → Parted k n d c p
-parted k n d c p hk pos h ce pe =
-    let e : p ≡ 2 ^ (bitCount d - 1) = pe ∙ ap (λ (j : ℕ). 2 ^ (j - 1)) ce in
-    let f : n * p + (d - p) < 2 ^ (k - 1) = rw e (pair-field k n d pos h) in
-    let i : k - 1 ≤ 32 = omega arith in
-    record {
-      low = omega (arith, bit-count-pos d);
-      high = omega (arith, bit-count-pos n);
-      leading = rw e (bit-count-top d pos);
-      position = rw ce (pair-slash k n d pos h);
-      fits = f;
-      small = omega (arith, pow-mono i);
-    }
-
--- ---- checks
-
-pub above-is : (width w : ℕ) → 0 < width → leb 2 (w / 2 ^ (width - 1)) ≡ isAbove width w
-unfolding isAbove
-above-is width w h = go (leb 2 (w / 2 ^ (width - 1))) refl
-  where
-    go : (b : Bool) → leb 2 (w / 2 ^ (width - 1)) ≡ b → leb 2 (w / 2 ^ (width - 1)) ≡ leb (2 ^ width) w
-    go true e =
-        let l : 2 ^ width ≤ w =
-        omega (arith, pow-before width h, le-div-iff-mul-le {k = 2 ^ (width - 1)} {x = 2} {y = w} (pow-pos (width - 1)) .0 (leb-true _ _ e))
-        in
-        e ∙ sym (le-leb _ _ l)
-    go false e =
-        let l : w < 2 ^ width =
-        omega (arith, pow-before width h, div-lt-iff-lt-mul {k = 2 ^ (width - 1)} {x = w} {y = 2} (pow-pos (width - 1)) .0 (leb-false _ _ e))
-        in
-        e ∙ sym (lt-leb _ _ l)
-
--- what `is_above` answers of the width that `word_bits` gives
-pub above-case : (f : Format) (w width : ℕ) (b : Bool) {c : Bool} → width ≡ widthOf f → b ≡ isAbove width w → b ≡ c → isAbove (widthOf f) w ≡ c
-above-case f w width b e h g = ap (λ (j : ℕ). isAbove j w) (sym e) ∙ sym h ∙ g
-
-module _ (f : Format) (w : ℕ) where
-  -- the answers of `check`
-  pub check-refused : {n p : ℕ} → stop n p ≡ checkFormat f → stop n p ≡ checkWord f w
-  unfolding checkWord
-  check-refused e = then-stop _ e
-
-  module _ (h : known f ≡ true) where
-    pub check-above : isAbove (widthOf f) w ≡ true → stop 4 0 ≡ checkWord f w
-    unfolding checkWord
-    check-above g = rw (format-good f h, g) refl
-
-    module _ (g : isAbove (widthOf f) w ≡ false) where
-      pub check-fixed : f .kind ≡ 1 → done tt ≡ checkWord f w
-      unfolding checkWord
-      check-fixed e = rw (format-good f h, g, eq-eqb _ _ e) refl
-
-      pub check-undefined : (f .kind ≡ 1 → ⊥) → slashUndefined (f .k) w ≡ true → stop 5 0 ≡ checkWord f w
-      unfolding checkWord
-      check-undefined n u = rw (format-good f h, g, ne-eqb _ _ n, u) refl
-
-      pub check-floating : (f .kind ≡ 1 → ⊥) → slashUndefined (f .k) w ≡ false → done tt ≡ checkWord f w
-      unfolding checkWord
-      check-floating n u = rw (format-good f h, g, ne-eqb _ _ n, u) refl
-
-  pub number-fixed : f .kind ≡ 1 → fixedNumber (f .k) w ≡ numberOf f w
-  unfolding numberOf
-  number-fixed e = rw (eq-eqb _ _ e) refl
-
-  pub number-floating : (f .kind ≡ 1 → ⊥) → floatingNumber (f .k) w ≡ numberOf f w
-  unfolding numberOf
-  number-floating n = rw (ne-eqb _ _ n) refl
-
-  -- what `value` and `is_approximate` go by
-  pub number-unfit : kFits f ≡ false → record { value = NotANumber; approximate = false } ≡ numberIn f w
-  unfolding numberIn
-  number-unfit h = rw h refl
-
-  number-fit : kFits f ≡ true → numberOf f w ≡ numberIn f w
-  unfolding numberIn
-  number-fit h = rw h refl
-
-  pub fixed-fits : kFits f ≡ true → f .kind ≡ 1 → fixedNumber (f .k) w ≡ numberIn f w
-  fixed-fits h e = number-fixed e ∙ number-fit h
-
-  pub floating-fits : kFits f ≡ true → (f .kind ≡ 1 → ⊥) → floatingNumber (f .k) w ≡ numberIn f w
-  floating-fits h n = number-floating n ∙ number-fit h
-
-  -- and `fields`
-  pub fields-unfit : kFits f ≡ false → Fixed (record { negative = false; numerator = 0; approximate = false; denominator = 0 }) ≡ fieldsIn f w
-  unfolding fieldsIn
-  fields-unfit h = rw h refl
-
-  pub fields-fixed : kFits f ≡ true → f .kind ≡ 1 → Fixed (fixedFields (f .k) w) ≡ fieldsIn f w
-  unfolding fieldsIn fieldsOf
-  fields-fixed h e = rw (h, eq-eqb _ _ e) refl
-
-  pub fields-floating : kFits f ≡ true → (f .kind ≡ 1 → ⊥) → Floating (floatingFields (f .k) w) ≡ fieldsIn f w
-  unfolding fieldsIn fieldsOf
-  fields-floating h n = rw (h, ne-eqb _ _ n) refl
-
-  -- a word that is checked
-  module _ (c : checkWord f w ≡ done tt) where
-    pub checked-known : known f ≡ true
-    checked-known = go (checkFormat f) refl
-      where
-        go : (o : Outcome (Unit {0})) → checkFormat f ≡ o → known f ≡ true
-        go (done u) e = good-known f (sym e)
-        go (stop n p) e = absurd (no-stop (check-refused (sym e) ∙ c))
-
-    -- it has no bit above its width
-    pub checked-below : isAbove (widthOf f) w ≡ false
-    checked-below = go (isAbove (widthOf f) w) refl
-      where
-        go : (b : Bool) → isAbove (widthOf f) w ≡ b → isAbove (widthOf f) w ≡ false
-        go false g = g
-        go true g = absurd (no-stop (check-above checked-known g ∙ c))
-
-    pub checked-number : numberIn f w ≡ numberOf f w
-    checked-number = sym (number-fit (known-fits f checked-known))
-
-    pub checked-fields : fieldsIn f w ≡ fieldsOf f w
-    unfolding fieldsIn
-    checked-fields = rw (known-fits f checked-known) refl
-
-    pub checked-read : readWord f w ≡ done (numberOf f w)
-    unfolding readWord
-    checked-read = rw c refl
-
-    pub checked-done : (v : Value) (a : Bool) → v ≡ numberIn f w .value → a ≡ numberIn f w .approximate
-        → done (record { value = v; approximate = a }) ≡ readWord f w
-    checked-done v a ve ae = rw (ve, ae) (ap done checked-number ∙ sym checked-read)
-
-  -- and one that was read was checked
-  pub read-checked : {x : Number} → readWord f w ≡ done x → checkWord f w ≡ done tt
-  unfolding readWord
-  read-checked {x} r = go (checkWord f w) refl
+  -- The sign is kept through underflow and overflow. (Not-a-number's is 0.)
+  pub word-sign : (a : Bool) (v : Value) → isOverZero v ≡ false → partsOf (numberOf f (wordFor f a v) .value) .negative ≡ partsOf v .negative
+  word-sign a v z = ap (λ (u : Value). partsOf u .negative) (word-value a v z) ∙ kept v
     where
-      go : (o : Outcome (Unit {0})) → checkWord f w ≡ o → checkWord f w ≡ done tt
-      go (stop n p) e = absurd (no-stop (sym (ap (λ (q : Outcome (Unit {0})). q then λ _. done (numberOf f w)) e) ∙ r))
-      go (done u) e = e
+      kept : (u : Value) → partsOf (writtenValue f u) .negative ≡ partsOf u .negative
+      kept (Fraction p) = value-sign (p .negative) _
+      kept (Zero s) = refl
+      kept (Infinity s) = refl
+      kept NotANumber = refl
 
--- what `check` answered, by its case: the word is read so
-module _ (f : Format) (w : ℕ) {r : Checked} (h : checkOutcome r ≡ checkedWord f w) where
-  pub check-stop : {s : Stop} → r ≡ Checked.Stopped s → stop (s .number) (s .place) ≡ checkWord f w
-  check-stop e = then-stopped (goodWord f w) (checkWord f w) (sym (ap checkOutcome e) ∙ h)
+  -- The exact result cut to its last continued-fraction convergent that the format holds.
+  pub word-rounded : (a : Bool) (v : Value) → isOverZero v ≡ false → RoundedTo f (sizeOf v) (wordFor f a v)
+  unfolding BestForRatio BestForValue
+  word-rounded a (Fraction p) z =
+      best-is-round (holds f) (format-limit f h) (p .numerator) (p .denominator) (over-some (Fraction p) p refl z) _ (word-best f h a (Fraction p) z)
+  word-rounded a (Zero s) z = best-is-round (holds f) (format-limit f h) 0 1 (omega arith) _ (word-best f h a (Zero s) z)
+  word-rounded a (Infinity s) z = tt
+  word-rounded a NotANumber z = tt
 
-  pub check-stopped : {s : Stop} → r ≡ Checked.Stopped s → stop (s .number) (s .place) ≡ readWord f w
-  unfolding readWord
-  check-stopped e = then-stop (λ _. done (numberOf f w)) (check-stop e)
-
-  pub check-good : {g : GoodWord} → r ≡ Checked.Good g → checkWord f w ≡ done tt
-  check-good e = then-made (goodWord f w) (checkWord f w) (sym (ap checkOutcome e) ∙ h)
-
-  -- and it is the word that was checked
-  pub check-same : {g : GoodWord} → r ≡ Checked.Good g → g ≡ goodWord f w
-  check-same e = done-inj (sym (ap checkOutcome e) ∙ h ∙ ap (λ (o : Outcome (Unit {0})). o then λ _. done (goodWord f w)) (check-good e))
-
-  pub check-number : {g : GoodWord} → r ≡ Checked.Good g → numberIn (g .format) (g .word) ≡ numberIn f w
-  check-number e = ap (λ (x : GoodWord). numberIn (x .format) (x .word)) (check-same e)
-
-  pub check-value : {g : GoodWord} → r ≡ Checked.Good g → {v : Value} → v ≡ numberIn (g .format) (g .word) .value → v ≡ numberIn f w .value
-  check-value e ve = ve ∙ ap (λ (x : Number). x .value) (check-number e)
-
-  pub check-mark : {g : GoodWord} → r ≡ Checked.Good g → {a : Bool} → a ≡ numberIn (g .format) (g .word) .approximate → a ≡ numberIn f w .approximate
-  check-mark e ae = ae ∙ ap (λ (x : Number). x .approximate) (check-number e)
-
-  pub check-read : {g : GoodWord} → r ≡ Checked.Good g → done (numberOf f w) ≡ readWord f w
-  check-read e = sym (checked-read f w (check-good e))
+  -- The mark is 1 if it was or rounding changed the value, and 0 on not-a-number.
+  pub word-mark : (a : Bool) (v : Value) → isOverZero v ≡ false
+      → numberOf f (wordFor f a v) .approximate ≡ (if isNan v then false else a || changed f (sizeOf v) (wordFor f a v))
+  unfolding isNan pairOf differs
+  word-mark a (Fraction p) z =
+      ap (λ (x : Number). x .approximate) (word-says a (Fraction p) z .number)
+      ∙ ap (λ (x : Pair). a || differs (p .numerator) (p .denominator) x) (sym (word-rounded a (Fraction p) z))
+  word-mark a (Zero s) z =
+      ap (λ (x : Number). x .approximate) (word-says a (Zero s) z .number)
+      ∙ ap (λ (v : Value). a || differs 0 1 (pairOf v)) (sym (word-value a (Zero s) z))
+  word-mark a (Infinity s) z = ap (λ (x : Number). x .approximate) (word-says a (Infinity s) z .number)
+  word-mark a NotANumber z = ap (λ (x : Number). x .approximate) (word-says a NotANumber z .number)

@@ -31,5 +31,5 @@ bitOf true = 1
 bitOf false = 0
 
 -- A word from its fields, the highest first: the sign s, then x in i bits, y in j bits, z in k bits.
-unfoldable pub fields : (s x i y j z k : ℕ) → ℕ
-fields s x i y j z k = ((s * 2 ^ i + x) * 2 ^ j + y) * 2 ^ k + z
+unfoldable pub wordOfFields : (s x i y j z k : ℕ) → ℕ
+wordOfFields s x i y j z k = ((s * 2 ^ i + x) * 2 ^ j + y) * 2 ^ k + z

@@ -6,6 +6,10 @@ use Rattle.convergents.specs.Choice.{if_then_else_}
 use Rattle.slash.specs.Answers.{Outcome, stop, done, _then_}
 use Rattle.slash.specs.Bits.{leastPower, bitCount}
 use Rattle.slash.specs.declared.format.Format.{Format}
+use Rattle.slash.specs.declared.format.Made.{Made}
+use Rattle.slash.specs.declared.format.Made.the-variants as Made
+
+-- ---- which there are
 
 -- Kind 1 is fixed; kind 2 is floating.
 abbrev pub isFixed : Format → Bool
@@ -18,8 +22,11 @@ isFloating f = eqb (f .kind) 2
 unfoldable pub kFits : Format → Bool
 kFits f = leb 2 (f .k) && leb (f .k) (if isFixed f then 31 else 32)
 
+-- 01's known formats.
 unfoldable pub known : Format → Bool
 known f = (isFixed f || isFloating f) && kFits f
+
+-- ---- stop 1
 
 -- The check of a format: stop 1 for an unknown kind or k.
 unfoldable pub checkFormat : Format → Outcome (Unit {0})
@@ -29,14 +36,22 @@ checkFormat f = if known f then done tt else stop 1 0
 abbrev pub whenKnown : {A : Type 0} → Format → Outcome A → Outcome A
 whenKnown f next = checkFormat f then λ _. next
 
+-- What is answered of a known format.
 unfoldable pub ofKnown : {A : Type 0} → Format → A → Outcome A
 ofKnown f x = whenKnown f (done x)
 
 abbrev pub formatOf : (kind k : ℕ) → Format
 formatOf kind k = record { kind = kind; k = k }
 
+-- Making a format: stop 1, or the format.
 unfoldable pub makeFormat : ℕ → ℕ → Outcome Format
 makeFormat kind k = ofKnown (formatOf kind k) (formatOf kind k)
+
+abbrev pub madeOutcome : Made → Outcome Format
+madeOutcome (Made.Done f) = done f
+madeOutcome (Made.Stopped s) = stop (s .number) (s .place)
+
+-- ---- widths, and what is held
 
 -- L: the least whole number with 2^L ≥ k.
 unfoldable pub slashBits : ℕ → ℕ
@@ -46,7 +61,7 @@ slashBits k = leastPower k
 unfoldable pub widthOf : Format → ℕ
 widthOf f = if isFixed f then 2 * f .k + 2 else f .k + slashBits (f .k) + 1
 
--- A format holds the pair r/s, s at least 1, if, fixed, both are at most 2^k - 1, or, floating, their bit counts sum to at most k.
+-- 01's *holds*: a format holds the pair r/s, s at least 1, if, fixed, both are at most 2^k - 1, or, floating, their bit counts sum to at most k.
 -- (It also holds 1/0: `held`.)
 unfoldable pub holds : Format → ℕ → ℕ → Bool
 holds f r s =

@@ -2,8 +2,11 @@
 pub mod Answers
 pub mod Bits
 pub mod Formats
-pub mod Words
+pub mod Numbers
+pub mod Reading
 pub mod Rounding
+pub mod Writing
 pub mod Canonical
-pub mod Signed
+pub mod Best
+-- For the code and the proofs alone.
 pub mod Steps

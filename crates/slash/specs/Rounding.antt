@@ -8,6 +8,8 @@ use Rattle.slash.specs.Answers.{Outcome, stop, done}
 use Rattle.slash.specs.Formats.{whenKnown, holds}
 use Rattle.slash.specs.declared.format.Format.{Format}
 use Rattle.slash.specs.declared.rounding.Rounded.{Rounded}
+use Rattle.slash.specs.declared.rounding.Rounding.{Rounding}
+use Rattle.slash.specs.declared.rounding.Rounding.the-variants as Rounding
 
 -- The last convergent of N/D that the format holds, marked if its value isn't N/D.
 abbrev pub rounded : Format → ℕ → ℕ → Rounded
@@ -21,3 +23,7 @@ roundRatio f N D =
     whenKnown f (
     if eqb D 0 then stop 6 0 else
     done (rounded f N D))
+
+abbrev pub roundingOutcome : Rounding → Outcome Rounded
+roundingOutcome (Rounding.Done x) = done x
+roundingOutcome (Rounding.Stopped s) = stop (s .number) (s .place)

@@ -8,7 +8,7 @@ pub struct Stop {
 }
 
 // The answer of a call that makes nothing: a check, or one whose result stands in lent memory.
-pub enum Told {
+pub enum Completion {
     Done,
     Stopped(Stop),
 }

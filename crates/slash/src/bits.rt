@@ -1,7 +1,7 @@
 // The bits of a number: powers of two, fields, how many bits a number takes.
 ghost use mathlib.Core.Path.{_≡_};
 ghost use Prim.Native.Nat.{_+_, _<_, _^_};
-ghost use Rattle.slash.specs.Bits.{bitCount, bits, bit, bitOf, fields};
+ghost use Rattle.slash.specs.Bits.{bitCount, bits, bit, bitOf, wordOfFields};
 
 pub(crate) fn power(k: u64) -> u64
     requires { ⌜ k < 64 ⌝ }
@@ -52,7 +52,7 @@ pub(crate) fn bit_of(b: bool) -> u64
 // A word of four fields, the highest first: a sign, and x, y, z of i, j, k bits.
 pub(crate) fn pack(s: u64, x: u64, i: u64, y: u64, j: u64, z: u64, k: u64) -> u64
     requires { ⌜ (i + j + k < 64) × (s < 2) × (x < 2 ^ i) × (y < 2 ^ j) × (z < 2 ^ k) ⌝ }
-    ensures { λ r. ⌜ r ≡ fields s x i y j z k ⌝ }
+    ensures { λ r. ⌜ r ≡ wordOfFields s x i y j z k ⌝ }
 {
     let p = power(i);
     let q = power(j);

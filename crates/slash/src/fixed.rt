@@ -2,7 +2,8 @@
 ghost use mathlib.Core.Path.{_≡_};
 ghost use Prim.Native.Nat.{_≤_, _<_, _^_};
 ghost use Rattle.slash.specs.Bits.{bitOf};
-ghost use Rattle.slash.specs.Words.{fixedFields, fixedValue, fixedNumber, fixedWord};
+ghost use Rattle.slash.specs.Reading.{fixedFields, fixedValue, fixedNumber};
+ghost use Rattle.slash.specs.Writing.{fixedWord};
 use crate::bits::bit_of;
 use crate::bits::field;
 use crate::bits::flag;

@@ -2,11 +2,11 @@
 ghost use mathlib.Core.Path.{_≡_};
 ghost use mathlib.Core.Bool.{true};
 ghost use Prim.Native.Nat.{_≤_};
-ghost use Rattle.slash.specs.Answers.{outcome, toldOutcome, madeOutcome};
-ghost use Rattle.slash.specs.Formats.{known, kFits, checkFormat, makeFormat, ofKnown, slashBits, widthOf, largestPart};
+ghost use Rattle.slash.specs.Answers.{answerOutcome, completionOutcome};
+ghost use Rattle.slash.specs.Formats.{madeOutcome, known, kFits, checkFormat, makeFormat, ofKnown, slashBits, widthOf, largestPart};
 use crate::answer::Answer;
+use crate::answer::Completion;
 use crate::answer::Stop;
-use crate::answer::Told;
 use crate::bits::bit_count;
 use crate::bits::power;
 
@@ -39,50 +39,47 @@ impl Format {
     {
         let f = Format { kind: kind, k: k };
         match f.check() {
-            Told::Stopped(s) => Made::Stopped(s),
-            Told::Done => Made::Done(f),
+            Completion::Stopped(s) => Made::Stopped(s),
+            Completion::Done => Made::Done(f),
         }
     }
 
     // Whether the format is refused: what every call that takes one asks first.
-    pub fn check(self) -> Told
-        ensures { λ r. ⌜ toldOutcome r ≡ checkFormat self ⌝ }
+    pub fn check(self) -> Completion
+        ensures { λ r. ⌜ completionOutcome r ≡ checkFormat self ⌝ }
     {
         if self.is_known() {
-            Told::Done
+            Completion::Done
         } else {
-            Told::Stopped(Stop::plain(Stop::FORMAT))
+            Completion::Stopped(Stop::plain(Stop::FORMAT))
         }
     }
 
     // How many bits a word has.
     pub fn width(self) -> Answer
-        ensures { λ r. ⌜ outcome r ≡ ofKnown self (widthOf self) ⌝ }
+        ensures { λ r. ⌜ answerOutcome r ≡ ofKnown self (widthOf self) ⌝ }
     {
         match self.check() {
-            Told::Stopped(s) => Answer::Stopped(s),
-            Told::Done => Answer::Done(self.word_bits()),
+            Completion::Stopped(s) => Answer::Stopped(s),
+            Completion::Done => Answer::Done(self.word_bits()),
         }
     }
 
     // The largest numerator of a pair that the format holds, 1/0 aside.
     pub fn largest_numerator(self) -> Answer
-        ensures { λ r. ⌜ outcome r ≡ ofKnown self (largestPart self) ⌝ }
+        ensures { λ r. ⌜ answerOutcome r ≡ ofKnown self (largestPart self) ⌝ }
     {
         match self.check() {
-            Told::Stopped(s) => Answer::Stopped(s),
-            Told::Done => Answer::Done(self.largest_part()),
+            Completion::Stopped(s) => Answer::Stopped(s),
+            Completion::Done => Answer::Done(self.largest_part()),
         }
     }
 
-    // The largest denominator of a pair that the format holds.
+    // The largest denominator of a pair that the format holds: the same.
     pub fn largest_denominator(self) -> Answer
-        ensures { λ r. ⌜ outcome r ≡ ofKnown self (largestPart self) ⌝ }
+        ensures { λ r. ⌜ answerOutcome r ≡ ofKnown self (largestPart self) ⌝ }
     {
-        match self.check() {
-            Told::Stopped(s) => Answer::Stopped(s),
-            Told::Done => Answer::Done(self.largest_part()),
-        }
+        self.largest_numerator()
     }
 
     // Whether the kind is one of the two, and k within its bounds.

@@ -13,8 +13,8 @@ mod rounding;
 mod writing;
 
 pub use answer::Answer;
+pub use answer::Completion;
 pub use answer::Stop;
-pub use answer::Told;
 pub use answer::Written;
 pub use fields::Fields;
 pub use fields::FixedFields;

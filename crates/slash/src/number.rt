@@ -1,6 +1,6 @@
 // What a word says: a signed fraction, zero, infinity or not-a-number, and the mark beside it.
 ghost use mathlib.Core.Path.{_≡_};
-ghost use Rattle.slash.specs.Words.{isNan, partsOf};
+ghost use Rattle.slash.specs.Numbers.{isNan, partsOf};
 
 // The parts of a fraction. Of a word they are as stored: neither is 0, and they need not be in
 // lowest terms. A number to be written may have any parts.

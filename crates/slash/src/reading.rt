@@ -1,10 +1,9 @@
 // Reading a word: whether it is refused, and what it says.
 ghost use mathlib.Core.Path.{_≡_};
 ghost use Prim.Native.Nat.{_<_};
-ghost use Rattle.slash.specs.Answers.{checkOutcome, readingOutcome};
-ghost use Rattle.slash.specs.Words.{isAbove, checkedWord, fieldsIn, numberIn, readWord};
+ghost use Rattle.slash.specs.Reading.{checkOutcome, readingOutcome, isAbove, checkedWord, fieldsIn, numberIn, readWord};
+use crate::answer::Completion;
 use crate::answer::Stop;
-use crate::answer::Told;
 use crate::fields::Fields;
 use crate::fields::FixedFields;
 use crate::fixed;
@@ -46,7 +45,7 @@ fn is_above(w: u64, width: u64) -> bool
 pub fn check(f: Format, w: u64) -> Checked
     ensures { λ r. ⌜ checkOutcome r ≡ checkedWord f w ⌝ }
 {
-    if let Told::Stopped(s) = f.check() {
+    if let Completion::Stopped(s) = f.check() {
         return Checked::Stopped(s);
     }
     if is_above(w, f.word_bits()) {

@@ -4,11 +4,11 @@ ghost use mathlib.Core.Bool.{true};
 ghost use Prim.Native.Nat.{_≤_};
 ghost use Rattle.convergents.specs.Pairs.{pair};
 ghost use Rattle.convergents.specs.Best.{Best};
-ghost use Rattle.slash.specs.Answers.{roundingOutcome, WhenDone};
+ghost use Rattle.slash.specs.Rounding.{roundingOutcome, rounded, roundRatio};
+ghost use Rattle.slash.specs.Answers.{WhenDone};
 ghost use Rattle.slash.specs.Formats.{known, holds};
-ghost use Rattle.slash.specs.Rounding.{rounded, roundRatio};
+use crate::answer::Completion;
 use crate::answer::Stop;
-use crate::answer::Told;
 use crate::bits::bit_count;
 use crate::bits::power;
 use crate::format::Format;
@@ -84,7 +84,7 @@ pub fn round(f: Format, n: u64, d: u64) -> Rounding
     ensures rounded { λ r. ⌜ roundingOutcome r ≡ roundRatio f n d ⌝ }
     ensures best { λ r. ⌜ WhenDone (roundingOutcome r) (λ x. Best (holds f) n d (pair (x .numerator) (x .denominator))) ⌝ }
 {
-    if let Told::Stopped(s) = f.check() {
+    if let Completion::Stopped(s) = f.check() {
         return Rounding::Stopped(s);
     }
     if d == 0 {

@@ -6,9 +6,10 @@ ghost use Rattle.convergents.specs.Rounding.{held};
 ghost use Rattle.slash.specs.Answers.{writtenOutcome, WhenDone};
 ghost use Rattle.slash.specs.Formats.{known, holds, formatOf};
 ghost use Rattle.slash.specs.Steps.{partsWord};
-ghost use Rattle.slash.specs.Words.{pairWord, nanWord, wordFor, isOverZero, writeNumber, exactRatio, BestFor, BestWord};
+ghost use Rattle.slash.specs.Writing.{pairWord, nanWord, wordFor, isOverZero, writeNumber, exactRatio};
+ghost use Rattle.slash.specs.Best.{BestForRatio, BestForValue};
+use crate::answer::Completion;
 use crate::answer::Stop;
-use crate::answer::Told;
 use crate::answer::Written;
 use crate::fixed;
 use crate::floating;
@@ -90,9 +91,9 @@ fn is_over_zero(v: Value) -> bool
 // The canonical word of a number in a format: a fraction is rounded into it.
 pub fn write(f: Format, x: Number) -> Written
     ensures written { λ r. ⌜ writtenOutcome r ≡ writeNumber f x ⌝ }
-    ensures best { λ r. ⌜ WhenDone (writtenOutcome r) (λ w. BestWord f (x .value) w) ⌝ }
+    ensures best { λ r. ⌜ WhenDone (writtenOutcome r) (λ w. BestForValue f (x .value) w) ⌝ }
 {
-    if let Told::Stopped(s) = f.check() {
+    if let Completion::Stopped(s) = f.check() {
         return Written::Stopped(s);
     }
     let v = x.value;
@@ -105,9 +106,9 @@ pub fn write(f: Format, x: Number) -> Written
 // The word of n/d, exact, rounded into a format.
 pub fn round_word(f: Format, n: u64, d: u64) -> Written
     ensures written { λ r. ⌜ writtenOutcome r ≡ writeNumber f (exactRatio n d) ⌝ }
-    ensures best { λ r. ⌜ WhenDone (writtenOutcome r) (λ w. BestFor f n d w) ⌝ }
+    ensures best { λ r. ⌜ WhenDone (writtenOutcome r) (λ w. BestForRatio f n d w) ⌝ }
 {
-    if let Told::Stopped(s) = f.check() {
+    if let Completion::Stopped(s) = f.check() {
         return Written::Stopped(s);
     }
     if d == 0 {

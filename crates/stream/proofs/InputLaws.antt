@@ -1,4 +1,5 @@
--- Bytes read behind those that a buffer holds, and moved to its front. Assumes nothing.
+-- Bytes read behind those that a buffer has, and moved to its front. Assumes nothing.
+-- `turn-listed`, `turn-read`: a turn that lists a line, or reads on, leaves fewer turns. `moving-end`: the bytes not used stand at the front.
 use mathlib.Core.Path.{_≡_, refl, sym, ap, _∙_}
 use mathlib.Core.Bool.{Bool, true, false}
 use mathlib.Core.Logic.{⊎-elim}
@@ -21,26 +22,26 @@ counts n xs h = (h, omega (arith, length-take n xs, h))
 pub below : (a b : ℕ) → a < b → a ≤ b
 below a b h = omega arith
 
-pub grown : (held n : ℕ) → (eqb n 0 ≡ false → held < held + n) × (held ≤ held + n)
-grown held n = (λ e. let some : n ≡ 0 → ⊥ = eqb-false _ _ e in omega arith, omega arith)
+pub grown : (filled n : ℕ) → (eqb n 0 ≡ false → filled < filled + n) × (filled ≤ filled + n)
+grown filled n = (λ e. let some : n ≡ 0 → ⊥ = eqb-false _ _ e in omega arith, omega arith)
 
 -- one more than the turns that are left: a turn lists a line, or reads bytes of one, or finds the end
-pub turnsLeft : (line held : ℕ) (last : Bool) → ℕ
-turnsLeft line held true = (65538 - line) * 40 + (34 - held)
-turnsLeft line held false = (65538 - line) * 40 + (34 - held) + 1
+pub turnsLeft : (line filled : ℕ) (last : Bool) → ℕ
+turnsLeft line filled true = (65538 - line) * 40 + (34 - filled)
+turnsLeft line filled false = (65538 - line) * 40 + (34 - filled) + 1
 
 -- a turn that listed lines and used bytes
-pub turn-listed : (line line′ held held′ : ℕ) (last : Bool) → line < line′ → line′ ≤ 65537 → turnsLeft line′ held′ last < turnsLeft line held last
+pub turn-listed : (line line′ filled filled′ : ℕ) (last : Bool) → line < line′ → line′ ≤ 65537 → turnsLeft line′ filled′ last < turnsLeft line filled last
 unfolding turnsLeft
-turn-listed line line′ held held′ true h few = omega arith
-turn-listed line line′ held held′ false h few = omega arith
+turn-listed line line′ filled filled′ true h few = omega arith
+turn-listed line line′ filled filled′ false h few = omega arith
 
 -- a turn that read on
-pub turn-read : (line held held′ : ℕ) (last last′ : Bool) → last ≡ false → held < 33 → (last′ ≡ false → held < held′) × (held ≤ held′)
-    → turnsLeft line held′ last′ < turnsLeft line held last
+pub turn-read : (line filled filled′ : ℕ) (last last′ : Bool) → last ≡ false → filled < 33 → (last′ ≡ false → filled < filled′) × (filled ≤ filled′)
+    → turnsLeft line filled′ last′ < turnsLeft line filled last
 unfolding turnsLeft
-turn-read line held held′ last true e h g = rw e (omega (arith, g .1))
-turn-read line held held′ last false e h g = rw e (omega (arith, g .0 refl))
+turn-read line filled filled′ last true e h g = rw e (omega (arith, g .1))
+turn-read line filled filled′ last false e h g = rw e (omega (arith, g .0 refl))
 
 -- which of the two it is, by the bytes that the piece used
 module _ (line : ℕ) (bs : List ℕ) (last : Bool) (used line′ : ℕ) (g : GoesOn line bs last used line′) where

@@ -1,4 +1,4 @@
--- What a run tells. Assumes nothing.
+-- What a run tells: a stop of a piece is one of the recording's (`refused-tells`). Assumes nothing.
 use mathlib.Core.Path.{_≡_, sym, subst}
 use mathlib.Core.Logic.{_⊎_, inl, inr}
 use mathlib.Core.Bool.{Bool}
@@ -12,8 +12,8 @@ use Rattle.listing.specs.declared.piece.End.the-variants as End
 use Rattle.listing.proofs.NightLaws.{Real}
 use Rattle.listing.proofs.PieceLaws.{StopIn}
 use Rattle.stream.specs.Runs.{runOutcome, Tells}
-use Rattle.stream.specs.declared.Run.{Run}
-use Rattle.stream.specs.declared.Run.the-variants.{Refused, Unwritten}
+use Rattle.stream.specs.declared.run.Run.{Run}
+use Rattle.stream.specs.declared.run.Run.the-variants.{Refused, Unwritten}
 
 -- a stop of a piece is the recording's
 end-tells : (night : Night) → Real night → (o : Outcome Bool) → StopIn night o → Tells o

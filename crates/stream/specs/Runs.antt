@@ -1,9 +1,10 @@
 -- How a run over file descriptors ends. What it reads and writes no contract can say.
-use Prim.Native.Nat.{_≤_}
+use Prim.Native.Nat.{suc, _≤_}
 use mathlib.Core.Bool.{Bool, true, false}
 use Rattle.slash.specs.Answers.{Outcome, stop, done}
-use Rattle.stream.specs.declared.Run.{Run}
-use Rattle.stream.specs.declared.Run.the-variants.{Listed, Refused, Unread, Unwritten}
+use Rattle.recording.specs.Reading.{mostLines}
+use Rattle.stream.specs.declared.run.Run.{Run}
+use Rattle.stream.specs.declared.run.Run.the-variants.{Listed, Refused, Unread, Unwritten}
 
 -- The outcome that each end stands for: a stop; or whether the listing is whole. (What can't be read or written cuts it; the papers number
 -- neither.)
@@ -15,5 +16,5 @@ runOutcome Unwritten = done false
 
 -- What a run tells: a stop is one that a recording can cause, 8 to 12, at a line from 1 to 65,537.
 abbrev pub Tells : Outcome Bool → Type 0
-Tells (stop number place) = (8 ≤ number) × (number ≤ 12) × (1 ≤ place) × (place ≤ 65537)
+Tells (stop number place) = (8 ≤ number) × (number ≤ 12) × (1 ≤ place) × (place ≤ suc mostLines)
 Tells (done whole) = Unit {0}

@@ -1,4 +1,6 @@
--- Columns: a word's fraction as it is read, and how long the columns are. Assumes nothing.
+-- The columns of a line. Assumes nothing.
+-- `nearest-half-up`: thousandths are 1000 n/d to the nearest whole, half up. `at-most-1000`: of a fraction up to 1 they are at most 1000.
+-- `columns-length`: the columns of a ratio that is printed have at most 26 bytes.
 use mathlib.Core.Path.{_≡_, refl, sym, ap, _∙_, subst}
 use mathlib.Core.Bool.{Bool, true, false, _&&_}
 use mathlib.Core.List.{List, [], _∷_, _++_}
@@ -11,17 +13,18 @@ use lib.ListN.{length, length-append}
 use Rattle.convergents.specs.Pairs.{Pair, pair}
 use Rattle.slash.specs.Answers.{stop}
 use Rattle.slash.specs.Formats.{kFits, known, widthOf}
-use Rattle.slash.specs.Words.{numberIn, checkWord, isAbove, partsOf, pairOf}
+use Rattle.slash.specs.Reading.{numberIn, checkWord, isAbove}
+use Rattle.slash.specs.Numbers.{partsOf, pairOf}
 use Rattle.slash.proofs.AnswerLaws.{no-stop}
-use Rattle.slash.proofs.WordLaws.{check-fixed}
+use Rattle.slash.proofs.ReadingLaws.{check-fixed}
 use Rattle.slash.specs.declared.format.Format.{Format}
 use Rattle.slash.specs.declared.number.Parts.{Parts}
 use Rattle.slash.specs.declared.number.Value.{Value}
 use Rattle.text.specs.Numbers.{tab, slash, point, decimal, hexadecimal}
-use Rattle.breaths.specs.Breaths.{format, wordOf, fractionOf}
-use Rattle.text.specs.Columns.{thousandths, percentage, fractionText, shares, columns}
-use Rattle.text.specs.Lines.{isShown}
-use Rattle.breaths.specs.Shown.{Shown, ShownRatio}
+use Rattle.breaths.specs.Ratios.{ratioFormat, wordOf, fractionOf}
+use Rattle.text.specs.Columns.{thousandths, percentage, fractionText, fractionAndPercentage, columns}
+use Rattle.text.specs.Lines.{isPrintable}
+use Rattle.breaths.specs.Steps.{Proportion, PrintableRatio}
 use Rattle.breaths.specs.declared.ratio.Ratio.{Ratio}
 use Rattle.breaths.specs.declared.ratio.Ratio.the-variants.{Void, Word}
 use Rattle.breaths.proofs.RatioLaws.{fraction-small}
@@ -30,15 +33,15 @@ use Rattle.text.proofs.NumberLaws.{decimal-small, decimal-length, hexad
 -- ---- a fraction from its word
 
 -- a word of sign 0 is good
-pub unsigned-good : (w : ℕ) (f : Format) → f ≡ format → w < 2 ^ 31 → {n p : ℕ} → stop n p ≡ checkWord f w → ⊥
+pub unsigned-good : (w : ℕ) (f : Format) → f ≡ ratioFormat → w < 2 ^ 31 → {n p : ℕ} → stop n p ≡ checkWord f w → ⊥
 unfolding known kFits isAbove widthOf
 unsigned-good w f fe l e =
     let small : w < 2 ^ 32 = omega arith in
     let below : leb (2 ^ 32) w ≡ false = lt-leb _ _ small in
-    no-stop (e ∙ ap (λ (g : Format). checkWord g w) fe ∙ sym (check-fixed format w refl below refl))
+    no-stop (e ∙ ap (λ (g : Format). checkWord g w) fe ∙ sym (check-fixed ratioFormat w refl below refl))
 
 -- the parts p of the value v that the word says
-module _ (w : ℕ) (f : Format) (fe : f ≡ format) (v : Value) (ve : v ≡ numberIn f w .value) (p : Parts) (pe : p ≡ partsOf v) where
+module _ (w : ℕ) (f : Format) (fe : f ≡ ratioFormat) (v : Value) (ve : v ≡ numberIn f w .value) (p : Parts) (pe : p ≡ partsOf v) where
   pub fraction-parts : pair (p .numerator) (p .denominator) ≡ fractionOf w
   unfolding fractionOf pairOf numberIn kFits
   fraction-parts = rw (pe, ve, fe) refl
@@ -70,63 +73,63 @@ unfolding percentage
 percentage-digits t a e = ap (λ (u : List ℕ). decimal (t / 10) ++ point ++ u) (decimal-small (t % 10) a (mod-lt t (omega arith)) e)
 
 module _ (w n d : ℕ) (e : pair n d ≡ fractionOf w) where
-  pub word-shares : (t : ℕ) → t ≡ thousandths n d → fractionText (pair n d) ++ tab ++ percentage t ≡ shares (Word w)
-  unfolding shares
+  pub word-shares : (t : ℕ) → t ≡ thousandths n d → fractionText (pair n d) ++ tab ++ percentage t ≡ fractionAndPercentage (Word w)
+  unfolding fractionAndPercentage
   word-shares t f =
       ap (λ (u : ℕ). fractionText (pair n d) ++ tab ++ percentage u) f
       ∙ ap (λ (x : Pair). fractionText x ++ tab ++ percentage (thousandths (x .numerator) (x .denominator))) e
 
-  module _ (s : Shown w) where
-    shown-numerator : n ≤ d
-    shown-numerator = omega (arith, ap (λ (x : Pair). x .numerator) e, ap (λ (x : Pair). x .denominator) e, s .proper)
+  module _ (s : Proportion w) where
+    proportion-numerator : n ≤ d
+    proportion-numerator = omega (arith, ap (λ (x : Pair). x .numerator) e, ap (λ (x : Pair). x .denominator) e, s .proper)
 
-    shown-denominator : (1 ≤ d) × (d ≤ 32767)
-    shown-denominator =
+    proportion-denominator : (1 ≤ d) × (d ≤ 32767)
+    proportion-denominator =
         let j : d ≡ fractionOf w .denominator = ap (λ (x : Pair). x .denominator) e in
         (omega (arith, s .some), omega (arith, fraction-small w .1))
 
-    pub shown-parts : (n < 100000) × (d < 100000) × (1 ≤ d)
-    shown-parts = (omega (arith, shown-numerator, shown-denominator .1), omega (arith, shown-denominator .1), shown-denominator .0)
+    pub proportion-parts : (n < 100000) × (d < 100000) × (1 ≤ d)
+    proportion-parts = (omega (arith, proportion-numerator, proportion-denominator .1), omega (arith, proportion-denominator .1), proportion-denominator .0)
 
-    pub shown-percentage : (t : ℕ) → t ≡ thousandths n d → t < 1001
-    shown-percentage t f = omega (arith, at-most-1000 n d (shown-denominator .0) shown-numerator)
+    pub proportion-percentage : (t : ℕ) → t ≡ thousandths n d → t < 1001
+    proportion-percentage t f = omega (arith, at-most-1000 n d (proportion-denominator .0) proportion-numerator)
 
 module _ (r : Ratio) where
-  pub columns-are : (w : ℕ) → w ≡ wordOf r → hexadecimal 8 w ++ tab ++ shares r ≡ columns r
+  pub columns-are : (w : ℕ) → w ≡ wordOf r → hexadecimal 8 w ++ tab ++ fractionAndPercentage r ≡ columns r
   unfolding columns
-  columns-are w e = ap (λ (v : ℕ). hexadecimal 8 v ++ tab ++ shares r) e
+  columns-are w e = ap (λ (v : ℕ). hexadecimal 8 v ++ tab ++ fractionAndPercentage r) e
 
-  pub shares-void : r ≡ Void → (45 ∷ 9 ∷ 45 ∷ []) ≡ shares r
-  unfolding shares
+  pub shares-void : r ≡ Void → (45 ∷ 9 ∷ 45 ∷ []) ≡ fractionAndPercentage r
+  unfolding fractionAndPercentage
   shares-void e = rw e refl
 
   module _ (w : ℕ) (e : r ≡ Word w) where
-    pub shares-word : shares (Word w) ≡ shares r
-    shares-word = ap shares (sym e)
+    pub shares-word : fractionAndPercentage (Word w) ≡ fractionAndPercentage r
+    shares-word = ap fractionAndPercentage (sym e)
 
-    pub shown-word : ShownRatio r → Shown w
-    shown-word s = subst ShownRatio e s
+    pub proportion-word : PrintableRatio r → Proportion w
+    proportion-word s = subst PrintableRatio e s
 
 -- ---- which ratios are shown
 
 module _ (w n d : ℕ) (e : pair n d ≡ fractionOf w) where
-  pub word-shown : w < 2 ^ 31 → (leb 1 d && leb n d) ≡ isShown (Word w)
-  unfolding isShown
-  word-shown l =
+  pub word-proportion : w < 2 ^ 31 → (leb 1 d && leb n d) ≡ isPrintable (Word w)
+  unfolding isPrintable
+  word-proportion l =
       ap (λ (x : Pair). leb 1 (x .denominator) && leb (x .numerator) (x .denominator)) e
       ∙ ap (λ (b : Bool). b && (leb 1 (fractionOf w .denominator) && leb (fractionOf w .numerator) (fractionOf w .denominator))) (sym (lt-ltb _ _ l))
 
-pub signed-shown : (w : ℕ) → 2 ^ 31 ≤ w → false ≡ isShown (Word w)
-unfolding isShown
-signed-shown w l = rw (le-ltb _ _ l) refl
+pub signed-unprintable : (w : ℕ) → 2 ^ 31 ≤ w → false ≡ isPrintable (Word w)
+unfolding isPrintable
+signed-unprintable w l = rw (le-ltb _ _ l) refl
 
 module _ (r : Ratio) where
-  pub void-shown : r ≡ Void → true ≡ isShown r
-  unfolding isShown
-  void-shown e = rw e refl
+  pub void-printable : r ≡ Void → true ≡ isPrintable r
+  unfolding isPrintable
+  void-printable e = rw e refl
 
-  pub ratio-shown : (w : ℕ) → r ≡ Word w → (t : Bool) → t ≡ isShown (Word w) → t ≡ isShown r
-  ratio-shown w e t h = h ∙ ap isShown (sym e)
+  pub ratio-proportion : (w : ℕ) → r ≡ Word w → (t : Bool) → t ≡ isPrintable (Word w) → t ≡ isPrintable r
+  ratio-proportion w e t h = h ∙ ap isPrintable (sym e)
 
 -- ---- how long the columns are
 
@@ -140,8 +143,8 @@ unfolding fractionText
 fraction-length x n d =
     omega (arith, length-append (decimal (x .numerator) ++ slash) (decimal (x .denominator)), length-append (decimal (x .numerator)) slash, decimal-length 4 (x .numerator) n, decimal-length 4 (x .denominator) d)
 
-word-length : (w : ℕ) → Shown w → length (shares (Word w)) ≤ 17
-unfolding shares
+word-length : (w : ℕ) → Proportion w → length (fractionAndPercentage (Word w)) ≤ 17
+unfolding fractionAndPercentage
 word-length w s =
     let x : Pair = fractionOf w in
     let t : ℕ = thousandths (x .numerator) (x .denominator) in
@@ -153,16 +156,16 @@ word-length w s =
       percentage-length t (at-most-1000 (x .numerator) (x .denominator) (s .some) (s .proper)),
     )
 
-shares-length : (r : Ratio) → ShownRatio r → length (shares r) ≤ 17
+shares-length : (r : Ratio) → PrintableRatio r → length (fractionAndPercentage r) ≤ 17
 shares-length Void s = omega (arith, ap length (shares-void Void refl))
 shares-length (Word w) s = word-length w s
 
-pub columns-length : (r : Ratio) → ShownRatio r → length (columns r) ≤ 26
+pub columns-length : (r : Ratio) → PrintableRatio r → length (columns r) ≤ 26
 unfolding columns
 columns-length r s =
     omega (
       arith,
-      length-append (hexadecimal 8 (wordOf r) ++ tab) (shares r),
+      length-append (hexadecimal 8 (wordOf r) ++ tab) (fractionAndPercentage r),
       length-append (hexadecimal 8 (wordOf r)) tab,
       hexadecimal-length 8 (wordOf r),
       shares-length r s,

@@ -1,5 +1,5 @@
 -- The laws that the functions' proofs cite, and what follows from the definitions.
 pub mod NumberLaws
-pub mod FindLaws
+pub mod ScanLaws
 pub mod ColumnLaws
 pub mod LineLaws

@@ -1,4 +1,6 @@
--- The lines of a listing by their parts, how long they are, and which are stored. Assumes nothing.
+-- The lines of a listing. Assumes nothing.
+-- `most-bytes`: no line that a listing has is of more than 33 bytes. `refused-most`: the line of a stop has at most 50, for any 64-bit numbers. `line-stored`, `line-no-room`,
+-- `line-no-name`, `line-not-printable`: what `put_line` stores, and where it stores nothing.
 use mathlib.Core.Path.{_≡_, refl, sym, ap, _∙_, subst}
 use mathlib.Core.Bool.{true, false, _&&_, and-eq-true-iff, and-false}
 use mathlib.Core.List.{List, [], _∷_, _++_}
@@ -7,14 +9,15 @@ use native.Mathlib.Omega.{arith}
 use lib.Dec.{leb, ltb}
 use lib.ListN.{length, drop, length-append}
 use borrow.Author.Tests.{leb-true, ltb-true, le-leb, lt-leb, lt-ltb}
-use Rattle.breaths.specs.Breaths.{fractionOf}
-use Rattle.breaths.specs.Shown.{Shown, ShownRatio}
+use Rattle.breaths.specs.Ratios.{fractionOf}
+use Rattle.breaths.specs.Steps.{Proportion, PrintableRatio}
 use Rattle.breaths.specs.declared.ratio.Ratio.{Ratio}
 use Rattle.breaths.specs.declared.ratio.Ratio.the-variants.{Void, Word}
 use Rattle.text.specs.Numbers.{tab, lineFeed, decimal}
 use Rattle.text.specs.Columns.{columns}
-use Rattle.text.specs.Lines.{nameText, lineOf, refusedLine, isName, isShown, lineIn}
-use Rattle.text.specs.Stores.{Room, Stored, atStart}
+use Rattle.text.specs.Lines.{nameText, lineOf, refusedLine, isName, isPrintable, lineIn}
+use Rattle.text.specs.Steps.{Room}
+use Rattle.text.specs.Stores.{Stored, atStart}
 use Rattle.text.specs.declared.line.Name.{Name}
 use Rattle.text.specs.declared.line.Name.the-variants.{Number, All}
 use Rattle.text.proofs.NumberLaws.{put-front, store-none, stored-as, room-first, decimal-length}
@@ -51,23 +54,23 @@ number-name n i j = rw (le-leb _ _ i, le-leb _ _ j) refl
 
 -- ---- ratios
 
-pub shown-is : (r : Ratio) → ShownRatio r → isShown r ≡ true
-unfolding isShown
-shown-is Void s = refl
-shown-is (Word w) s = rw (lt-ltb _ _ (s .unsigned), le-leb _ _ (s .some), le-leb _ _ (s .proper)) refl
+pub printable-is : (r : Ratio) → PrintableRatio r → isPrintable r ≡ true
+unfolding isPrintable
+printable-is Void s = refl
+printable-is (Word w) s = rw (lt-ltb _ _ (s .unsigned), le-leb _ _ (s .some), le-leb _ _ (s .proper)) refl
 
-word-shown : (w : ℕ) → isShown (Word w) ≡ true → Shown w
-unfolding isShown
-word-shown w e =
+word-proportion : (w : ℕ) → isPrintable (Word w) ≡ true → Proportion w
+unfolding isPrintable
+word-proportion w e =
     let n : ℕ = fractionOf w .numerator in
     let d : ℕ = fractionOf w .denominator in
     let halves = and-eq-true-iff (ltb w (2 ^ 31)) (leb 1 d && leb n d) .0 e in
     let parts = and-eq-true-iff (leb 1 d) (leb n d) .0 (halves .1) in
     record { unsigned = ltb-true _ _ (halves .0); some = leb-true _ _ (parts .0); proper = leb-true _ _ (parts .1) }
 
-pub is-shown : (r : Ratio) → isShown r ≡ true → ShownRatio r
-is-shown Void e = tt
-is-shown (Word w) e = word-shown w e
+pub is-printable : (r : Ratio) → isPrintable r ≡ true → PrintableRatio r
+is-printable Void e = tt
+is-printable (Word w) e = word-proportion w e
 
 -- ---- lines
 
@@ -87,7 +90,7 @@ refused-room stop line h = room-first (decimal stop) (room-first tab (room-first
 
 -- ---- how long they are
 
-line-length : (name : Name) (r : Ratio) (m : ℕ) → length (nameText name) ≤ m → ShownRatio r → length (lineOf name r) ≤ m + 28
+line-length : (name : Name) (r : Ratio) (m : ℕ) → length (nameText name) ≤ m → PrintableRatio r → length (lineOf name r) ≤ m + 28
 unfolding lineOf
 line-length name r m h s =
     let t : List ℕ = nameText name in
@@ -95,16 +98,16 @@ line-length name r m h s =
     omega (arith, length-append (t ++ tab ++ c) lineFeed, length-append (t ++ tab) c, length-append t tab, columns-length r s)
 
 -- a number of j + 1 digits
-pub number-length : (j n : ℕ) (r : Ratio) → n < 10 ^ suc j → ShownRatio r → length (lineOf (Number n) r) ≤ 29 + j
+pub number-length : (j n : ℕ) (r : Ratio) → n < 10 ^ suc j → PrintableRatio r → length (lineOf (Number n) r) ≤ 29 + j
 number-length j n r h s =
     let t : length (nameText (Number n)) ≤ suc j = subst (λ (u : List ℕ). length u ≤ suc j) (name-number (Number n) n refl) (decimal-length j n h) in
     omega (arith, line-length (Number n) r (suc j) t s)
 
-pub all-length : (r : Ratio) → ShownRatio r → length (lineOf All r) ≤ 31
+pub all-length : (r : Ratio) → PrintableRatio r → length (lineOf All r) ≤ 31
 all-length r s = line-length All r 3 (omega (arith, ap length (name-all All refl))) s
 
 -- no line has more than 33 bytes
-pub most-bytes : (name : Name) (r : Ratio) → isName name ≡ true → ShownRatio r → length (lineOf name r) ≤ 33
+pub most-bytes : (name : Name) (r : Ratio) → isName name ≡ true → PrintableRatio r → length (lineOf name r) ≤ 33
 most-bytes (Number n) r h s = number-length 4 n r (number-small (Number n) n refl h) s
 most-bytes All r h s = omega (arith, all-length r s)
 
@@ -152,18 +155,18 @@ module _ (o : List ℕ) (at : ℕ) (name : Name) (r : Ratio) where
   unfolding lineIn
   line-no-name e = none (rw (e, and-false (leb 33 (length o - at))) refl)
 
-  pub line-not-shown : isShown r ≡ false → Stored o at (lineIn (length o - at) name r) o at
+  pub line-not-printable : isPrintable r ≡ false → Stored o at (lineIn (length o - at) name r) o at
   unfolding lineIn
-  line-not-shown e = none (rw (e, and-false (isName name), and-false (leb 33 (length o - at))) refl)
+  line-not-printable e = none (rw (e, and-false (isName name), and-false (leb 33 (length o - at))) refl)
 
   -- the line
-  module _ (h : 33 ≤ length o - at) (n : isName name ≡ true) (s : isShown r ≡ true) where
+  module _ (h : 33 ≤ length o - at) (n : isName name ≡ true) (s : isPrintable r ≡ true) where
     pub line-is : lineOf name r ≡ lineIn (length o - at) name r
     unfolding lineIn
     line-is = rw (le-leb _ _ h, n, s) refl
 
     pub line-room : Room o at (lineOf name r)
-    line-room = record { room = omega (arith, most-bytes name r n (is-shown r s)) }
+    line-room = record { room = omega (arith, most-bytes name r n (is-printable r s)) }
 
     pub line-stored : {o′ : List ℕ} {k : ℕ} → Stored o at (lineOf name r) o′ k → Stored o at (lineIn (length o - at) name r) o′ k
     line-stored t = stored-as line-is t

@@ -1,4 +1,6 @@
--- Storing text: pieces one after the other, and the digits of a number. Assumes nothing.
+-- Storing text, and the digits of a number. Assumes nothing.
+-- `chain`: one text stored behind another is both stored. `putting-end`: what the loop over a text comes to. `decimal-hundreds`, `hex-bytes`: a
+-- number's digits two at a time. `decimal-length`, `hexadecimal-length`: how long they are.
 use mathlib.Core.Path.{_≡_, refl, sym, ap, _∙_, subst}
 use mathlib.Core.List.{List, [], _∷_, _++_, append-assoc}
 use Prim.Native.Nat.{ℕ, zero, suc, _+_, _-_, _/_, _%_, _^_, _≤_, _<_}
@@ -12,7 +14,8 @@ use lib.ListN.{set, length, getD, drop, length-set, length-append}
 use lib.Seq.{sets-eq, length-sets, drop-cons, drop-length}
 use borrow.Author.Tests.{lt-ltb, le-ltb, eqb-true}
 use Rattle.text.specs.Numbers.{decimalFrom, decimal, hexDigit, hexadecimal}
-use Rattle.text.specs.Stores.{put, Room, Stored, twoDigits}
+use Rattle.text.specs.Stores.{put, Stored}
+use Rattle.text.specs.Steps.{Room, twoDigits}
 
 -- ---- storing, wherever the place: what runs past the end is dropped on both sides
 

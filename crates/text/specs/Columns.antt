@@ -3,7 +3,7 @@ use Prim.Native.Nat.{ℕ, _+_, _*_, _/_, _%_}
 use mathlib.Core.List.{List, _++_}
 use Rattle.convergents.specs.Pairs.{Pair}
 use Rattle.text.specs.Numbers.{tab, slash, point, hyphen, decimal, hexadecimal}
-use Rattle.breaths.specs.Breaths.{wordOf, fractionOf}
+use Rattle.breaths.specs.Ratios.{wordOf, fractionOf}
 use Rattle.breaths.specs.declared.ratio.Ratio.{Ratio}
 use Rattle.breaths.specs.declared.ratio.Ratio.the-variants.{Void, Word}
 
@@ -20,12 +20,12 @@ unfoldable pub fractionText : Pair → List ℕ
 fractionText x = decimal (x .numerator) ++ slash ++ decimal (x .denominator)
 
 -- What stands behind the word: its fraction, and the percentage of that fraction; a void one has two hyphens. Tab-parted.
-unfoldable pub shares : Ratio → List ℕ
-shares Void = hyphen ++ tab ++ hyphen
-shares (Word w) =
+unfoldable pub fractionAndPercentage : Ratio → List ℕ
+fractionAndPercentage Void = hyphen ++ tab ++ hyphen
+fractionAndPercentage (Word w) =
     let x : Pair = fractionOf w in
     fractionText x ++ tab ++ percentage (thousandths (x .numerator) (x .denominator))
 
 -- The word as 8 lowercase hexadecimal digits, and what stands behind it.
 unfoldable pub columns : Ratio → List ℕ
-columns r = hexadecimal 8 (wordOf r) ++ tab ++ shares r
+columns r = hexadecimal 8 (wordOf r) ++ tab ++ fractionAndPercentage r

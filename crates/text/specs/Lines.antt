@@ -5,7 +5,8 @@ use mathlib.Core.List.{List, [], _∷_, _++_}
 use lib.Dec.{leb, ltb}
 use Rattle.convergents.specs.Choice.{if_then_else_}
 use Rattle.convergents.specs.Pairs.{Pair}
-use Rattle.breaths.specs.Breaths.{fractionOf}
+use Rattle.breaths.specs.Ratios.{fractionOf}
+use Rattle.breaths.specs.Sums.{mostBreaths}
 use Rattle.breaths.specs.declared.ratio.Ratio.{Ratio}
 use Rattle.breaths.specs.declared.ratio.Ratio.the-variants.{Void, Word}
 use Rattle.text.specs.Numbers.{tab, lineFeed, decimal}
@@ -26,21 +27,24 @@ lineOf name r = nameText name ++ tab ++ columns r ++ lineFeed
 unfoldable pub refusedLine : (stop line : ℕ) → List ℕ
 refusedLine stop line = (114 ∷ 101 ∷ 102 ∷ 117 ∷ 115 ∷ 101 ∷ 100 ∷ 9 ∷ []) ++ decimal stop ++ tab ++ decimal line ++ lineFeed
 
+-- The longest line of a listing: 5 digits, 8 digits, two numbers of 5 digits with a slash, 100.0, three tabs and the line feed.
+abbrev pub longestLine : ℕ
+longestLine = 33
+
 -- ---- which lines are stored
 
--- Breaths are numbered from 1 to 65,536.
+-- Breaths are numbered from 1 on.
 unfoldable pub isName : Name → Bool
-isName (Number n) = leb 1 n && leb n 65536
+isName (Number n) = leb 1 n && leb n mostBreaths
 isName All = true
 
--- A ratio that a line shows: void, or a word with sign 0 (bit 31, the highest) from 0 to 1.
-unfoldable pub isShown : Ratio → Bool
-isShown Void = true
-isShown (Word w) =
+-- A ratio that a line can show: void, or a word with sign 0 (bit 31, the highest) from 0 to 1.
+unfoldable pub isPrintable : Ratio → Bool
+isPrintable Void = true
+isPrintable (Word w) =
     let x : Pair = fractionOf w in
     ltb w (2 ^ 31) && (leb 1 (x .denominator) && leb (x .numerator) (x .denominator))
 
--- What is stored of a line where there is so much room: the line, where a listing can have it and its longest, of 33 bytes, has room; else
--- nothing.
+-- What is stored of a line where there is so much room: the line, where a listing can have it and the longest has room; else nothing.
 unfoldable pub lineIn : (room : ℕ) → Name → Ratio → List ℕ
-lineIn room name r = if leb 33 room && (isName name && isShown r) then lineOf name r else []
+lineIn room name r = if leb longestLine room && (isName name && isPrintable r) then lineOf name r else []

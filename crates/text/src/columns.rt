@@ -2,11 +2,12 @@
 ghost use mathlib.Core.Path.{_≡_};
 ghost use Prim.Native.Nat.{_≤_, _<_, _^_};
 ghost use Rattle.convergents.specs.Pairs.{pair};
-ghost use Rattle.breaths.specs.Breaths.{fractionOf};
-ghost use Rattle.text.specs.Columns.{thousandths, percentage, fractionText, shares, columns};
-ghost use Rattle.text.specs.Lines.{isShown};
-ghost use Rattle.text.specs.Stores.{Room, Stored};
-ghost use Rattle.breaths.specs.Shown.{Shown, ShownRatio};
+ghost use Rattle.breaths.specs.Ratios.{fractionOf};
+ghost use Rattle.text.specs.Columns.{thousandths, percentage, fractionText, fractionAndPercentage, columns};
+ghost use Rattle.text.specs.Lines.{isPrintable};
+ghost use Rattle.text.specs.Steps.{Room};
+ghost use Rattle.text.specs.Stores.{Stored};
+ghost use Rattle.breaths.specs.Steps.{Proportion, PrintableRatio};
 use crate::number::digit;
 use crate::number::put_byte;
 use crate::number::put_decimal;
@@ -43,8 +44,8 @@ fn word_fraction(w: u64) -> Fraction
 const SIGN: u64 = 2147483648;
 
 // Whether a word stands for a ratio from 0 to 1.
-fn is_shown_word(w: u64) -> bool
-    ensures { λ r. ⌜ r ≡ isShown (Ratio.Word w) ⌝ }
+fn is_printable_word(w: u64) -> bool
+    ensures { λ r. ⌜ r ≡ isPrintable (Ratio.Word w) ⌝ }
 {
     if SIGN <= w {
         return false;
@@ -54,12 +55,12 @@ fn is_shown_word(w: u64) -> bool
 }
 
 // Whether a line shows it.
-pub(crate) fn is_shown(x: Ratio) -> bool
-    ensures { λ r. ⌜ r ≡ isShown x ⌝ }
+pub(crate) fn is_printable(x: Ratio) -> bool
+    ensures { λ r. ⌜ r ≡ isPrintable x ⌝ }
 {
     match x {
         Ratio::Void => true,
-        Ratio::Word(w) => is_shown_word(w),
+        Ratio::Word(w) => is_printable_word(w),
     }
 }
 
@@ -91,8 +92,8 @@ fn put_percentage(out: &mut [u8], at: usize, t: u32) -> usize
 
 // What stands behind the word w of a ratio: its fraction, and the percentage of that fraction.
 fn put_shares(out: &mut [u8], at: usize, w: u64) -> usize
-    requires { ⌜ Shown w × Room (now out) at (shares (Ratio.Word w)) ⌝ }
-    ensures { λ r. ⌜ Stored (now (out .entry)) at (shares (Ratio.Word w)) (now (out .exit)) r ⌝ }
+    requires { ⌜ Proportion w × Room (now out) at (fractionAndPercentage (Ratio.Word w)) ⌝ }
+    ensures { λ r. ⌜ Stored (now (out .entry)) at (fractionAndPercentage (Ratio.Word w)) (now (out .exit)) r ⌝ }
 {
     let x = word_fraction(w);
     let tab = put_fraction(out, at, x.numerator, x.denominator);
@@ -101,7 +102,7 @@ fn put_shares(out: &mut [u8], at: usize, w: u64) -> usize
 }
 
 pub(crate) fn put_columns(out: &mut [u8], at: usize, x: Ratio) -> usize
-    requires { ⌜ ShownRatio x × Room (now out) at (columns x) ⌝ }
+    requires { ⌜ PrintableRatio x × Room (now out) at (columns x) ⌝ }
     ensures { λ r. ⌜ Stored (now (out .entry)) at (columns x) (now (out .exit)) r ⌝ }
 {
     let tab = put_hexadecimal(out, at, x.word());

@@ -4,9 +4,10 @@ ghost use mathlib.Core.Bool.{true};
 ghost use Prim.Native.Nat.{_-_};
 ghost use lib.ListN.{length};
 ghost use Rattle.text.specs.Lines.{nameText, lineOf, refusedLine, isName, lineIn};
-ghost use Rattle.text.specs.Stores.{Room, Stored, atStart};
-ghost use Rattle.breaths.specs.Shown.{ShownRatio};
-use crate::columns::is_shown;
+ghost use Rattle.text.specs.Steps.{Room};
+ghost use Rattle.text.specs.Stores.{Stored, atStart};
+ghost use Rattle.breaths.specs.Steps.{PrintableRatio};
+use crate::columns::is_printable;
 use crate::columns::put_columns;
 use crate::number::put_byte;
 use crate::number::put_decimal;
@@ -16,10 +17,10 @@ use breaths::Ratio;
 use slash::Stop;
 
 // The longest line of a listing.
-const MOST_BYTES: usize = 33;
+pub const LONGEST_LINE: usize = 33;
 
 // The most breaths of a listing.
-const MOST_BREATHS: u32 = 65536;
+pub const MOST_BREATHS: u32 = 65536;
 
 // What a line begins with: a breath's number, or `all`.
 pub enum Name {
@@ -47,7 +48,7 @@ fn put_name(out: &mut [u8], at: usize, name: Name) -> usize
 }
 
 fn put_whole(out: &mut [u8], at: usize, name: Name, ratio: Ratio) -> usize
-    requires { ⌜ (isName name ≡ true) × ShownRatio ratio × Room (now out) at (lineOf name ratio) ⌝ }
+    requires { ⌜ (isName name ≡ true) × PrintableRatio ratio × Room (now out) at (lineOf name ratio) ⌝ }
     ensures { λ r. ⌜ Stored (now (out .entry)) at (lineOf name ratio) (now (out .exit)) r ⌝ }
 {
     let tab = put_name(out, at, name);
@@ -65,13 +66,13 @@ pub fn put_line(out: &mut [u8], at: usize, name: Name, ratio: Ratio) -> usize
     if out.len() < at {
         return at;
     }
-    if out.len() - at < MOST_BYTES {
+    if out.len() - at < LONGEST_LINE {
         return at;
     }
     if !is_name(name) {
         return at;
     }
-    if !is_shown(ratio) {
+    if !is_printable(ratio) {
         return at;
     }
     put_whole(out, at, name, ratio)

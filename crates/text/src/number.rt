@@ -4,7 +4,8 @@ ghost use mathlib.Core.Path.{_≡_};
 ghost use mathlib.Core.List.{[], _∷_};
 ghost use Prim.Native.Nat.{_+_, _<_};
 ghost use Rattle.text.specs.Numbers.{decimal, hexadecimal, hexDigit};
-ghost use Rattle.text.specs.Stores.{Room, Stored, twoDigits};
+ghost use Rattle.text.specs.Steps.{Room, twoDigits};
+ghost use Rattle.text.specs.Stores.{Stored};
 
 pub(crate) fn put_byte(out: &mut [u8], at: usize, b: u8) -> usize
     requires { ⌜ Room (now out) at (b ∷ []) ⌝ }

@@ -1,5 +1,5 @@
--- The laws that the functions' proofs cite.
-pub mod SignedLaws
-pub mod UnaryLaws
+-- The laws that the functions' proofs cite, and what follows from the definitions.
+pub mod FloorLaws
+pub mod OperationLaws
 pub mod SignLaws
-pub mod VectorLaws
+pub mod EachLaws

@@ -1,4 +1,5 @@
--- Negate and absolute value, of what the words say: the same number with the new sign. Assumes nothing.
+-- Negate and absolute value, of what the words say. Assumes nothing.
+-- `sign-touched`, `unary-sign`: the new word is read as the same number with the new sign.
 use mathlib.Core.Path.{_≡_, refl, sym, ap, ap₂, _∙_, subst}
 use mathlib.Core.Bool.{Bool, true, false, true≢false}
 use Prim.Native.Nat.{ℕ, _+_, _-_, _*_, _/_, _%_, _^_, _≤_, _<_}
@@ -13,17 +14,20 @@ use Rattle.convergents.specs.Choice.{if_then_else_}
 use Rattle.slash.specs.Answers.{Outcome, done, WhenDone}
 use Rattle.slash.specs.Bits.{bits, bit, bitOf}
 use Rattle.slash.specs.Formats.{known, slashBits, widthOf}
-use Rattle.slash.specs.Words.{fixedValue, fixedNumber, slashPosition, slashUndefined, floatingFraction, floatingSpecial, floatingNumber, numberOf, isAbove, checkWord, readWord, isNan}
+use Rattle.slash.specs.Reading.{fixedValue, fixedNumber, slashPosition, slashUndefined, floatingFraction, floatingSpecial, floatingNumber, numberOf, isAbove, checkWord, readWord}
+use Rattle.slash.specs.Numbers.{isNan}
 use Rattle.slash.proofs.AnswerLaws.{done-inj, no-stop}
 use Rattle.slash.proofs.BitLaws.{pow-next, bit-lt, bit-back}
 use Rattle.slash.proofs.FormatLaws.{known-k, width-fixed, width-floating, width-range}
-use Rattle.slash.proofs.WordLaws.{check-undefined, check-fixed, check-floating, number-fixed, number-floating, checked-known, checked-below, checked-read, read-checked}
+use Rattle.slash.proofs.ReadingLaws.{check-undefined, check-fixed, check-floating, number-fixed, number-floating, checked-known, checked-below, checked-read, read-checked}
 use Rattle.slash.specs.declared.format.Format.{Format}
 use Rattle.slash.specs.declared.number.Value.{Value}
 use Rattle.slash.specs.declared.number.Value.the-variants.{Fraction, Zero, Infinity, NotANumber}
 use Rattle.slash.specs.declared.number.Number.{Number}
-use Rattle.unary.specs.Unary.{signBit, withHighest, newSign, signTouched, signIn, withSign, unaryResult, unaryWord}
-use Rattle.unary.proofs.UnaryLaws.{when-unary}
+use Rattle.unary.specs.Signs.{signBit, withHighest, newSign, signTouched}
+use Rattle.unary.specs.Steps.{signIn, withSign}
+use Rattle.unary.specs.Operations.{unaryResult, unaryWord}
+use Rattle.unary.proofs.OperationLaws.{when-unary}
 
 -- ---- the fields of a word with another highest bit
 

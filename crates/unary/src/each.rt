@@ -3,20 +3,21 @@ ghost use mathlib.Core.Path.{_≡_};
 ghost use mathlib.Core.Bool.{true};
 ghost use mathlib.Core.List.{map};
 ghost use lib.ListN.{length};
-ghost use Rattle.slash.specs.Answers.{orZero, toldOutcome, WhenDone};
+ghost use Rattle.slash.specs.Steps.{orZero};
+ghost use Rattle.slash.specs.Answers.{completionOutcome, WhenDone};
 ghost use Rattle.slash.specs.Formats.{known};
-ghost use Rattle.vectors.specs.Each.{vectorAfter, told, EachPlace};
-ghost use Rattle.unary.specs.Unary.{isUnary, unaryWord};
-ghost use Rattle.unary.specs.Vectors.{unaryEach, BestUnary};
+ghost use Rattle.vectors.specs.Each.{vectorAfter, stopOnly, EachPlace};
+ghost use Rattle.unary.specs.Operations.{isUnary, unaryWord};
+ghost use Rattle.unary.specs.Each.{unaryEach, BestUnary};
 use crate::operation::fraction_word;
-use crate::operation::is_sign_touch;
 use crate::operation::is_unary;
 use crate::operation::special_word;
-use crate::operation::touch_sign;
+use crate::sign::is_sign_touch;
+use crate::sign::touch_sign;
 use slash::Checked;
+use slash::Completion;
 use slash::Format;
 use slash::Stop;
-use slash::Told;
 use slash::Value;
 
 // The word of `unary` at a place, or 0 where the word is refused.
@@ -59,26 +60,26 @@ fn store_unary(f: Format, code: u64, operand: &[u64], out: &mut [u64])
 }
 
 // A unary operation at each place of operand.
-pub fn unary_each(f: Format, code: u64, operand: &[u64], out: &mut [u64]) -> Told
-    ensures answered { λ r. ⌜ toldOutcome r ≡ told (unaryEach f code (now (operand .entry)) (now (out .entry))) ⌝ }
+pub fn unary_each(f: Format, code: u64, operand: &[u64], out: &mut [u64]) -> Completion
+    ensures answered { λ r. ⌜ completionOutcome r ≡ stopOnly (unaryEach f code (now (operand .entry)) (now (out .entry))) ⌝ }
     ensures stored { λ _. ⌜ now (out .exit) ≡ vectorAfter (unaryEach f code (now (operand .entry)) (now (out .entry))) (now (out .entry)) ⌝ }
-    ensures best { λ r. ⌜ WhenDone (toldOutcome r) (λ _. EachPlace (BestUnary f code) (now (operand .entry)) (now (out .exit))) ⌝ }
+    ensures best { λ r. ⌜ WhenDone (completionOutcome r) (λ _. EachPlace (BestUnary f code) (now (operand .entry)) (now (out .exit))) ⌝ }
 {
-    if let Told::Stopped(s) = f.check() {
-        return Told::Stopped(s);
+    if let Completion::Stopped(s) = f.check() {
+        return Completion::Stopped(s);
     }
     if !is_unary(code) {
-        return Told::Stopped(Stop::plain(Stop::CODE));
+        return Completion::Stopped(Stop::plain(Stop::CODE));
     }
     if operand.len() != out.len() {
-        return Told::Stopped(Stop::plain(Stop::LENGTH));
+        return Completion::Stopped(Stop::plain(Stop::LENGTH));
     }
     let checked = vectors::check_words(f, operand);
     match checked {
-        Told::Stopped(s) => Told::Stopped(s),
-        Told::Done => {
+        Completion::Stopped(s) => Completion::Stopped(s),
+        Completion::Done => {
             store_unary(f, code, operand, out);
-            Told::Done
+            Completion::Done
         }
     }
 }

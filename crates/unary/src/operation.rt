@@ -1,32 +1,31 @@
 // The unary operations: negate, absolute value, reciprocal, floor, ceiling, mod 1, normalise.
 ghost use mathlib.Core.Path.{_≡_};
-ghost use mathlib.Core.Bool.{true, not, _&&_};
-ghost use lib.Dec.{leb};
+ghost use mathlib.Core.Bool.{true};
 ghost use Prim.Native.Nat.{_≤_, _<_, _^_};
 ghost use lib.IntN.{natAbs};
-ghost use Rattle.slash.specs.Answers.{writtenOutcome, orZero, WhenDone};
-ghost use Rattle.slash.specs.Bits.{bit};
+ghost use Rattle.slash.specs.Answers.{writtenOutcome, WhenDone};
+ghost use Rattle.slash.specs.Steps.{orZero, SmallParts};
 ghost use Rattle.slash.specs.Formats.{known, formatOf};
-ghost use Rattle.slash.specs.Words.{BestWord, numberOf, isNan, writeNumber};
-ghost use Rattle.slash.specs.Steps.{SmallParts};
+ghost use Rattle.slash.specs.Best.{BestForValue};
+ghost use Rattle.slash.specs.Reading.{numberOf};
+ghost use Rattle.slash.specs.Numbers.{isNan};
+ghost use Rattle.slash.specs.Writing.{writeNumber};
 ghost use Rattle.unary.specs.Steps.{SmallValue};
-ghost use Rattle.unary.specs.Unary.{withHighest, newSign, signTouched, whole, floorParts, ceilingParts, modParts, exactParts, exactZero, exactInfinity, exactUnary, isUnary, unaryWord};
-use crate::signed;
-use slash::Answer;
+ghost use Rattle.unary.specs.Operations.{overOne, floorParts, ceilingParts, modParts, exactParts, exactZero, exactInfinity, exactUnary, isUnary, unaryWord};
+use crate::floor;
+use crate::sign::NEGATE;
+use crate::sign::is_sign_touch;
+use crate::sign::touch_sign;
 use slash::Checked;
+use slash::Completion;
 use slash::Format;
 use slash::Number;
 use slash::Parts;
 use slash::Stop;
-use slash::Told;
 use slash::Value;
 use slash::Written;
 
-// The codes of the operations.
-const NEGATE: u64 = 1;
-
-const ABSOLUTE: u64 = 2;
-
+// The codes of the operations, behind those that touch only the sign.
 const RECIPROCAL: u64 = 3;
 
 const FLOOR: u64 = 4;
@@ -37,42 +36,13 @@ const MOD_1: u64 = 6;
 
 const NORMALISE: u64 = 7;
 
-// w with its highest bit set or not, and every other bit as it was.
-fn with_highest(highest: u64, set: bool, w: u64) -> u64
-    requires { ⌜ highest < 64 ⌝ }
-    ensures { λ r. ⌜ r ≡ withHighest highest set w ⌝ }
-{
-    let power = 1 << highest;
-    let rest = w & (power - 1);
-    if set { power + rest } else { rest }
-}
-
-fn touch_highest(highest: u64, code: u64, w: u64) -> u64
-    requires { ⌜ highest < 64 ⌝ }
-    ensures { λ r. ⌜ r ≡ withHighest highest (newSign code (bit highest w)) w ⌝ }
-{
-    let negative = (w >> highest) % 2 == 1;
-    with_highest(highest, (code == NEGATE) & !negative, w)
-}
-
-// Code 1 turns the sign of a word, code 2 takes it off.
-pub(crate) fn touch_sign(f: Format, code: u64, w: u64) -> u64
-    requires { ⌜ known f ≡ true ⌝ }
-    ensures { λ r. ⌜ r ≡ signTouched f code w ⌝ }
-{
-    let Answer::Done(width) = f.width() else {
-        return 0;
-    };
-    touch_highest(width - 1, code, w)
-}
-
 fn whole_parts(n: i64) -> Parts
     requires { ⌜ natAbs n < 2 ^ 62 ⌝ }
-    ensures { λ r. ⌜ r ≡ whole n ⌝ }
+    ensures { λ r. ⌜ r ≡ overOne n ⌝ }
 {
     Parts {
         negative: n < 0,
-        numerator: signed::size(n),
+        numerator: floor::size(n),
         denominator: 1,
     }
 }
@@ -81,26 +51,26 @@ fn floor_parts(p: Parts) -> Parts
     requires { ⌜ SmallParts p ⌝ }
     ensures { λ r. ⌜ r ≡ floorParts p ⌝ }
 {
-    let n = signed::to_signed(p.negative, p.numerator);
-    whole_parts(signed::floor(n, p.denominator))
+    let n = floor::to_signed(p.negative, p.numerator);
+    whole_parts(floor::floor(n, p.denominator))
 }
 
 fn ceiling_parts(p: Parts) -> Parts
     requires { ⌜ SmallParts p ⌝ }
     ensures { λ r. ⌜ r ≡ ceilingParts p ⌝ }
 {
-    let n = signed::to_signed(p.negative, p.numerator);
-    whole_parts(signed::ceiling(n, p.denominator))
+    let n = floor::to_signed(p.negative, p.numerator);
+    whole_parts(floor::ceiling(n, p.denominator))
 }
 
 fn mod_parts(p: Parts) -> Parts
     requires { ⌜ SmallParts p ⌝ }
     ensures { λ r. ⌜ r ≡ modParts p ⌝ }
 {
-    let n = signed::to_signed(p.negative, p.numerator);
+    let n = floor::to_signed(p.negative, p.numerator);
     Parts {
         negative: false,
-        numerator: signed::above_floor(n, p.denominator),
+        numerator: floor::above_floor(n, p.denominator),
         denominator: p.denominator,
     }
 }
@@ -219,20 +189,13 @@ pub(crate) fn special_word(f: Format, code: u64, v: Value, marked: bool) -> u64
     word
 }
 
-// Whether a code touches only the sign of a value.
-pub(crate) fn is_sign_touch(code: u64, v: Value) -> bool
-    ensures { λ r. ⌜ r ≡ (leb code 2 && not (isNan v)) ⌝ }
-{
-    (code <= ABSOLUTE) & !slash::is_nan(v)
-}
-
 // Code 1 negates w, 2 takes its absolute value, 3 its reciprocal, 4 its floor, 5 its ceiling, 6 is
 // mod 1, 7 normalises.
 pub fn unary(f: Format, code: u64, w: u64) -> Written
     ensures written { λ r. ⌜ writtenOutcome r ≡ unaryWord f code w ⌝ }
-    ensures best { λ r. ⌜ (3 ≤ code → WhenDone (writtenOutcome r) (λ v. BestWord f (exactUnary code (numberOf f w .value)) v)) ⌝ }
+    ensures best { λ r. ⌜ (3 ≤ code → WhenDone (writtenOutcome r) (λ v. BestForValue f (exactUnary code (numberOf f w .value)) v)) ⌝ }
 {
-    if let Told::Stopped(s) = f.check() {
+    if let Completion::Stopped(s) = f.check() {
         return Written::Stopped(s);
     }
     if !is_unary(code) {

@@ -1,4 +1,4 @@
--- The check of vectors' words, one law for each way through the code. Assumes nothing.
+-- The check of vectors' words, one law for each way through the code: stop 1, stop 3, then the words'. Assumes nothing.
 use mathlib.Core.Path.{_≡_, refl}
 use mathlib.Core.Bool.{true}
 use mathlib.Core.List.{List}
@@ -7,11 +7,11 @@ use lib.ListN.{length}
 use borrow.Author.Tests.{eq-eqb, ne-eqb}
 use Rattle.slash.specs.Answers.{stop}
 use Rattle.slash.specs.Formats.{known, checkFormat}
-use Rattle.slash.specs.Words.{checkWord}
+use Rattle.slash.specs.Reading.{checkWord}
 use Rattle.slash.specs.declared.format.Format.{Format}
 use Rattle.slash.proofs.AnswerLaws.{then-stop}
 use Rattle.slash.proofs.FormatLaws.{format-good}
-use Rattle.vectors.specs.Vectors.{places, sameLength}
+use Rattle.vectors.specs.Places.{places, sameLength}
 use Rattle.vectors.specs.Checks.{checks, checkOperands, checkedWords, checkedPairs}
 
 module _ (f : Format) (operand : List ℕ) where

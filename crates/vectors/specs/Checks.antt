@@ -5,10 +5,10 @@ use mathlib.Core.List.{List, [], _∷_}
 use Rattle.convergents.specs.Choice.{if_then_else_}
 use Rattle.slash.specs.Answers.{Outcome, stop, done, _then_}
 use Rattle.slash.specs.Formats.{whenKnown}
-use Rattle.slash.specs.Words.{checkWord}
+use Rattle.slash.specs.Reading.{checkWord}
 use Rattle.slash.specs.declared.format.Format.{Format}
 use Rattle.vectors.specs.Each.{atPlace}
-use Rattle.vectors.specs.Vectors.{Operands, places, sameLength}
+use Rattle.vectors.specs.Places.{Operands, places, sameLength}
 
 -- A check at each place, from place i on.
 unfoldable pub checks : {A : Type 0} → (A → Outcome (Unit {0})) → ℕ → List A → Outcome (Unit {0})

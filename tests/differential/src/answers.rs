@@ -36,11 +36,7 @@ fn stop_text(stop: Stop) -> String {
 
 fn answer(letter: &str, numbers: &[u64]) -> Answer<String> {
     match (letter, numbers) {
-        ("c", &[n, d]) => Ok(joined(
-            paper::convergents(n.into(), d.into())
-                .iter()
-                .map(|(r, s)| format!("{r}/{s}")),
-        )),
+        ("f", &[kind, k]) => Ok(made_answer(paper::format(kind, k))),
         ("v", &[kind, k, to_kind, to_k, word]) => {
             let (source, target) = (paper::format(kind, k)?, paper::format(to_kind, to_k)?);
             hexadecimal(paper::convert(source, target, word))
@@ -53,20 +49,29 @@ fn answer(letter: &str, numbers: &[u64]) -> Answer<String> {
         }
         ("q", &[kind, k, length, word]) => Ok(quotients_answer(kind, k, length, word)),
         ("x", &[kind, k, code, left, right, _, ref words @ ..]) => {
-            Ok(vector_answer(words, left + right, |operands, out| {
-                let (left, right) = operands.split_at(left as usize);
-                paper::binary_each((kind, k), code, left, right, out)
-            }))
+            let (left, rest) = words.split_at(left as usize);
+            let (right, out) = rest.split_at(right as usize);
+            Ok(vector_answer(
+                paper::check_operands((kind, k), &[left, right]),
+                |out| paper::binary_each((kind, k), code, left, right, out),
+                out,
+            ))
         }
         ("y", &[kind, k, code, length, _, ref words @ ..]) => {
-            Ok(vector_answer(words, length, |operand, out| {
-                paper::unary_each((kind, k), code, operand, out)
-            }))
+            let (operand, out) = words.split_at(length as usize);
+            Ok(vector_answer(
+                paper::check_operands((kind, k), &[operand]),
+                |out| paper::unary_each((kind, k), code, operand, out),
+                out,
+            ))
         }
         ("z", &[kind, k, to_kind, to_k, length, _, ref words @ ..]) => {
-            Ok(vector_answer(words, length, |operand, out| {
-                paper::convert_each((kind, k), (to_kind, to_k), operand, out)
-            }))
+            let (operand, out) = words.split_at(length as usize);
+            Ok(vector_answer(
+                paper::check_operands((kind, k), &[operand]),
+                |out| paper::convert_each((kind, k), (to_kind, to_k), operand, out),
+                out,
+            ))
         }
         (_, &[kind, k, ref rest @ ..]) => format_answer(letter, paper::format(kind, k)?, rest),
         _ => panic!("unknown request {letter} {numbers:?}"),
@@ -76,11 +81,13 @@ fn answer(letter: &str, numbers: &[u64]) -> Answer<String> {
 /// The answers of the requests that begin with one format.
 fn format_answer(letter: &str, form: Format, numbers: &[u64]) -> Answer<String> {
     match (letter, numbers) {
-        ("f", []) => {
-            let largest = form.largest_part();
-            Ok(format!("{} {largest} {largest}", form.width()))
+        ("r", &[word]) => {
+            let text = number_text(paper::read(form, word)?);
+            let fields = paper::fields(form, word);
+            Ok(joined(
+                std::iter::once(text).chain(fields.iter().map(u128::to_string)),
+            ))
         }
-        ("r", &[word]) => paper::read(form, word).map(number_text),
         ("w", &[class, sign, n, d, mark]) => {
             let size = [
                 Size::Finite((n.into(), d.into())),
@@ -130,6 +137,20 @@ fn format_answer(letter: &str, form: Format, numbers: &[u64]) -> Answer<String> 
     }
 }
 
+/// What the check of a format tells, then what making it does.
+fn made_answer(made: Answer<Format>) -> String {
+    let parts = |form: Format| {
+        let largest = form.largest_part();
+        format!("{} {largest} {largest}", form.width())
+    };
+    let checked = told_text(made.map(|_| ()));
+    format!("{checked} {}", made.map_or_else(stop_text, parts))
+}
+
+fn told_text(told: Answer<()>) -> String {
+    told.map_or_else(stop_text, |()| "done".to_string())
+}
+
 fn hexadecimal(word: Answer<u64>) -> Answer<String> {
     word.map(|word| format!("{word:x}"))
 }
@@ -173,16 +194,19 @@ fn quotients_answer(kind: u64, k: u64, length: u64, word: u64) -> String {
     joined(std::iter::once(first).chain(list.iter().map(u32::to_string)))
 }
 
-/// What is answered for a vector form, whose lent result is what comes after the operands.
+/// What is answered for a vector form: what the check of its operands told, what it told itself, and
+/// the lent result after it.
 fn vector_answer(
-    words: &[u64],
-    operands: u64,
-    operation: impl Fn(&[u64], &mut [u64]) -> Answer<()>,
+    checked: Answer<()>,
+    operation: impl Fn(&mut [u64]) -> Answer<()>,
+    lent: &[u64],
 ) -> String {
-    let (operands, lent) = words.split_at(operands as usize);
     let mut out = lent.to_vec();
-    let first = operation(operands, &mut out).map_or_else(stop_text, |()| "done".to_string());
-    joined(std::iter::once(first).chain(out.iter().map(|word| format!("{word:x}"))))
+    let told = [told_text(checked), told_text(operation(&mut out))];
+    joined(
+        told.into_iter()
+            .chain(out.iter().map(|word| format!("{word:x}"))),
+    )
 }
 
 // Recipes.

@@ -161,6 +161,21 @@ pub fn read(form: Format, word: u64) -> Answer<Number> {
     })
 }
 
+/// The fields of a good word, the highest first.
+pub fn fields(form: Format, word: u64) -> [u128; 4] {
+    let (top, k) = (form.width() - 1, form.k);
+    match form.kind {
+        Kind::Fixed => [(top, 1), (k + 1, k), (k, 1), (0, k)],
+        Kind::Floating => [
+            (top, 1),
+            (top - 1, 1),
+            (k - 1, form.slash_bits()),
+            (0, k - 1),
+        ],
+    }
+    .map(|(low, count)| field(word, low, count))
+}
+
 fn fixed_size(numerator: u128, denominator: u128) -> Size {
     match (numerator, denominator) {
         (0, d) if d % 2 == 1 => Finite((0, 1)),
@@ -597,6 +612,22 @@ pub fn convert_each(
         operand.iter().map(|&word| convert(source, target, word)),
         out,
     )
+}
+
+/// Stop 1, then 3 for operands of unequal length, then the words', at a place the first operand's first.
+pub fn check_operands((kind, k): (u64, u64), operands: &[&[u64]]) -> Answer<()> {
+    let form = format(kind, k)?;
+    let length = operands[0].len();
+    check_lengths(operands.iter().all(|operand| operand.len() == length))?;
+    for place in 0..length {
+        for operand in operands {
+            read(form, operand[place]).map_err(|stop| Stop {
+                place: place as u64,
+                ..stop
+            })?;
+        }
+    }
+    Ok(())
 }
 
 fn check_lengths(equal: bool) -> Answer<()> {

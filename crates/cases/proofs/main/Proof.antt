@@ -1,18 +1,15 @@
 -- `cases::main` meets its contract. Assumes nothing.
-use borrow.Author.Needs.{needs}
 use mathlib.Core.Path.{_≡_}
 use lib.ListN.{length}
+use borrow.Author.Needs.{needs}
 use Rattle.cases.proofs.main.Statement.{statement}
 use Rattle.cases.proofs.main.Tie as tie
 
 abbrev Inv-loop : tie.InvT-loop
-Inv-loop buffer₀ line₀ all₀ left₀ buffer line all left = (65536 ≡ length buffer) × (64 ≡ length all)
+Inv-loop byte₀ line₀ all₀ left₀ byte line all left = (1 ≡ length byte) × (64 ≡ length all)
 
 abbrev μ-loop : tie.MeasureT-loop
-μ-loop buffer₀ line₀ all₀ left₀ buffer line all left = left
-
-large-buffer-requires : tie.Need-large-buffer-requires Inv-loop μ-loop
-large-buffer-requires c κs = search needs
+μ-loop byte₀ line₀ all₀ left₀ byte line all left = left
 
 empty-requires : tie.Need-empty-requires Inv-loop μ-loop
 empty-requires c κs = search needs
@@ -29,17 +26,14 @@ read-full-requires c κs = search needs
 returns : tie.Need-returns Inv-loop μ-loop
 returns c = search needs
 
-slice-aggregate-fed-all : tie.Need-slice-aggregate-fed-all Inv-loop μ-loop
-slice-aggregate-fed-all c = search needs
+slice-aggregate-fed : tie.Need-slice-aggregate-fed Inv-loop μ-loop
+slice-aggregate-fed c = search needs
 
-array-share-prefix-buffer : tie.Need-array-share-prefix-buffer Inv-loop μ-loop
-array-share-prefix-buffer c = search needs
+array-read-fed : tie.Need-array-read-fed Inv-loop μ-loop
+array-read-fed c = search needs
 
-slice-aggregate-fed-all-2 : tie.Need-slice-aggregate-fed-all-2 Inv-loop μ-loop
-slice-aggregate-fed-all-2 c = search needs
-
-fed-all-requires : tie.Need-fed-all-requires Inv-loop μ-loop
-fed-all-requires c κs = search needs
+fed-requires : tie.Need-fed-requires Inv-loop μ-loop
+fed-requires c κs = search needs
 
 sub-left : tie.Need-sub-left Inv-loop μ-loop
 sub-left c = search needs
@@ -59,16 +53,14 @@ main-spec =
     (tie.spec
     Inv-loop
     μ-loop
-    large-buffer-requires
     empty-requires
     loop-holds
     slice-aggregate-read-full
     read-full-requires
     returns
-    slice-aggregate-fed-all
-    array-share-prefix-buffer
-    slice-aggregate-fed-all-2
-    fed-all-requires
+    slice-aggregate-fed
+    array-read-fed
+    fed-requires
     sub-left
     loop-less
     loop-again

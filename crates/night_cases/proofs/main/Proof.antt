@@ -6,13 +6,10 @@ use Rattle.night_cases.proofs.main.Statement.{statement}
 use Rattle.night_cases.proofs.main.Tie as tie
 
 abbrev Inv-loop : tie.InvT-loop
-Inv-loop input₀ bytes₀ listing₀ r₀ left₀ input bytes listing r left = (65536 ≡ length input) × (2300000 ≡ length bytes)
+Inv-loop byte₀ bytes₀ listing₀ r₀ left₀ byte bytes listing r left = (1 ≡ length byte) × (2300000 ≡ length bytes)
 
 abbrev μ-loop : tie.MeasureT-loop
-μ-loop input₀ bytes₀ listing₀ r₀ left₀ input bytes listing r left = left
-
-large-buffer-requires : tie.Need-large-buffer-requires Inv-loop μ-loop
-large-buffer-requires c κs = search needs
+μ-loop byte₀ bytes₀ listing₀ r₀ left₀ byte bytes listing r left = left
 
 recording-buffer-requires : tie.Need-recording-buffer-requires Inv-loop μ-loop
 recording-buffer-requires c κs = search needs
@@ -35,17 +32,14 @@ read-full-requires c κs = search needs
 returns : tie.Need-returns Inv-loop μ-loop
 returns c = search needs
 
-array-share-prefix-input : tie.Need-array-share-prefix-input Inv-loop μ-loop
-array-share-prefix-input c = search needs
+array-read-fed : tie.Need-array-read-fed Inv-loop μ-loop
+array-read-fed c = search needs
 
-slice-aggregate-fed-all : tie.Need-slice-aggregate-fed-all Inv-loop μ-loop
-slice-aggregate-fed-all c = search needs
+slice-aggregate-fed : tie.Need-slice-aggregate-fed Inv-loop μ-loop
+slice-aggregate-fed c = search needs
 
-slice-aggregate-fed-all-2 : tie.Need-slice-aggregate-fed-all-2 Inv-loop μ-loop
-slice-aggregate-fed-all-2 c = search needs
-
-fed-all-requires : tie.Need-fed-all-requires Inv-loop μ-loop
-fed-all-requires c κs = search needs
+fed-requires : tie.Need-fed-requires Inv-loop μ-loop
+fed-requires c κs = search needs
 
 sub-left : tie.Need-sub-left Inv-loop μ-loop
 sub-left c = search needs
@@ -65,7 +59,6 @@ main-spec =
     (tie.spec
     Inv-loop
     μ-loop
-    large-buffer-requires
     recording-buffer-requires
     listing-buffer-requires
     begun-requires
@@ -73,10 +66,9 @@ main-spec =
     slice-aggregate-read-full
     read-full-requires
     returns
-    array-share-prefix-input
-    slice-aggregate-fed-all
-    slice-aggregate-fed-all-2
-    fed-all-requires
+    array-read-fed
+    slice-aggregate-fed
+    fed-requires
     sub-left
     loop-less
     loop-again

@@ -1,8 +1,8 @@
 -- `arithmetic::each::binary_at` meets its contract. Assumes nothing.
-use Rattle.arithmetic.proofs.BinaryLaws.{stop-left, stop-right, both-good, binary-made}
+use Rattle.arithmetic.proofs.OperationLaws.{stop-left, stop-right, both-good, binary-made}
 use Rattle.arithmetic.proofs.OperandLaws.{checked-operand, small-back}
 use Rattle.slash.proofs.AnswerLaws.{zero-stop, zero-done}
-use Rattle.slash.proofs.WordLaws.{check-stop, check-good, check-value, check-mark}
+use Rattle.slash.proofs.ReadingLaws.{check-stop, check-good, check-value, check-mark}
 use borrow.Author.Needs.{needs}
 use Rattle.arithmetic.proofs.each.binary_at.Statement.{statement}
 use Rattle.arithmetic.proofs.each.binary_at.Tie as tie

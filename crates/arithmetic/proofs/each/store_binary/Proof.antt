@@ -1,7 +1,8 @@
 -- `arithmetic::each::store_binary` meets its contract. Assumes nothing.
-use Rattle.vectors.proofs.EachLaws.{operands-at, length-places, store-next, store-end}
-use Rattle.vectors.specs.Vectors.{places}
+use Rattle.vectors.proofs.EachLaws.{operands-at, length-places, storing-next, storing-end}
+use Rattle.vectors.specs.Places.{places}
 use Rattle.arithmetic.specs.Steps.{binaryIn}
+use Rattle.vectors.specs.Steps.{Storing}
 use borrow.Author.Needs.{needs}
 use native.Mathlib.Omega.{arith}
 use mathlib.Core.Path.{_≡_, refl, sym, _∙_}
@@ -12,7 +13,7 @@ use Rattle.arithmetic.proofs.each.store_binary.Statement.{statement}
 use Rattle.arithmetic.proofs.each.store_binary.Tie as tie
 
 abbrev Inv-loop : tie.InvT-loop
-Inv-loop f code left right out₀ i₀ out i = (i ≤ length left) × (length out ≡ length out₀) × (take i out ++ map (binaryIn f code) (drop i (places left right)) ≡ map (binaryIn f code) (places left right))
+Inv-loop f code left right out₀ i₀ out i = Storing (binaryIn f code) (places left right) out₀ out i
 
 abbrev μ-loop : tie.MeasureT-loop
 μ-loop f code left right out₀ i₀ out i = length left - i
@@ -54,14 +55,10 @@ unfolding binaryIn
 loop-again c =
     let start = c .before .before .before .before .before .before .before .before in
     let at = c .before .before .before .before .loop in
-    let below = c .before .before .before .loop-test .taken in (
-      omega arith,
-      simp length-set (at .inv .1),
-      store-next (binaryIn (start .args .f) (start .args .code)) (places (start .args .left .now) (start .args .right .now)) (at .out) (at .i) _ _
-          (operands-at (start .args .left .now) (start .args .right .now) (at .i) (start .pre .2) below) (omega (arith, below, start .pre .3, at .inv .1))
-          (c .binary-at .ensures)
-          ∙ at .inv .2,
-    )
+    let below = c .before .before .before .loop-test .taken in
+    let long = length-places (start .args .left .now) (start .args .right .now) (start .pre .2) in
+    storing-next (binaryIn (start .args .f) (start .args .code)) (places (start .args .left .now) (start .args .right .now)) (start .args .out .now) (at .out) (at .i) (at .inv) (long ∙ start .pre .3) _ _
+    (operands-at (start .args .left .now) (start .args .right .now) (at .i) (start .pre .2) below) (omega (arith, long, below)) (c .binary-at .ensures)
 
 same-length : tie.Need-same-length Inv-loop μ-loop
 same-length c = c .before .loop .inv .1
@@ -69,12 +66,8 @@ same-length c = c .before .loop .inv .1
 returns : tie.Need-returns Inv-loop μ-loop
 returns c =
     let start = c .before .before .before .before .before in
-    let at = c .before .loop in
-    let left = start .args .left .now in
-    let right = start .args .right .now in
-    sym (store-end (binaryIn (start .args .f) (start .args .code)) (places left right) (at .out) (at .i) (omega (arith, length-places left right (start .pre .2), c .loop-test .left))
-    (omega (arith, c .loop-test .left, start .pre .3, at .inv .1)))
-    ∙ at .inv .2
+    let long = length-places (start .args .left .now) (start .args .right .now) (start .pre .2) in
+    storing-end (binaryIn (start .args .f) (start .args .code)) (places (start .args .left .now) (start .args .right .now)) (start .args .out .now) (c .before .loop .out) (c .before .loop .i) (c .before .loop .inv) (long ∙ start .pre .3) (omega (arith, long, c .loop-test .left))
 
 pub store-binary-spec : {M : Type 1} → statement M
 store-binary-spec =

@@ -16,6 +16,9 @@ count-requires c κs = search needs
 loop-holds : tie.Need-loop-holds Inv-loop μ-loop
 loop-holds c = search needs
 
+separator-requires : tie.Need-separator-requires Inv-loop μ-loop
+separator-requires c κs = search needs
+
 binary-requires : tie.Need-binary-requires Inv-loop μ-loop
 binary-requires c κs = search needs
 
@@ -42,6 +45,7 @@ binary-all-spec =
     μ-loop
     count-requires
     loop-holds
+    separator-requires
     binary-requires
     show-one-requires
     add-right

@@ -16,6 +16,9 @@ count-requires c κs = search needs
 loop-holds : tie.Need-loop-holds Inv-loop μ-loop
 loop-holds c = search needs
 
+separator-requires : tie.Need-separator-requires Inv-loop μ-loop
+separator-requires c κs = search needs
+
 convert-requires : tie.Need-convert-requires Inv-loop μ-loop
 convert-requires c κs = search needs
 
@@ -42,6 +45,7 @@ convert-all-spec =
     μ-loop
     count-requires
     loop-holds
+    separator-requires
     convert-requires
     show-one-requires
     add-w

@@ -44,35 +44,35 @@ part-copy-end c = search needs
 copy-requires : tie.Need-copy-requires
 copy-requires c κs = search needs
 
-sub-binary-each : tie.Need-sub-binary-each
-sub-binary-each c = search needs
+sub-lefts : tie.Need-sub-lefts
+sub-lefts c = search needs
 
-part-binary-each-start : tie.Need-part-binary-each-start
-part-binary-each-start c = search needs
+part-lefts-start : tie.Need-part-lefts-start
+part-lefts-start c = search needs
 
-part-binary-each-end : tie.Need-part-binary-each-end
-part-binary-each-end c = search needs
+part-lefts-end : tie.Need-part-lefts-end
+part-lefts-end c = search needs
 
-mul-binary-each : tie.Need-mul-binary-each
-mul-binary-each c = search needs
+mul-rights : tie.Need-mul-rights
+mul-rights c = search needs
 
-sub-binary-each-2 : tie.Need-sub-binary-each-2
-sub-binary-each-2 c = search needs
+sub-rights : tie.Need-sub-rights
+sub-rights c = search needs
 
-part-binary-each-start-2 : tie.Need-part-binary-each-start-2
-part-binary-each-start-2 c = search needs
+part-rights-start : tie.Need-part-rights-start
+part-rights-start c = search needs
 
-part-binary-each-end-2 : tie.Need-part-binary-each-end-2
-part-binary-each-end-2 c = search needs
+part-rights-end : tie.Need-part-rights-end
+part-rights-end c = search needs
+
+check-pairs-requires : tie.Need-check-pairs-requires
+check-pairs-requires c κs = search needs
 
 binary-each-requires : tie.Need-binary-each-requires
 binary-each-requires c κs = search needs
 
 show-stored-requires : tie.Need-show-stored-requires
 show-stored-requires c κs = search needs
-
-show-words-requires : tie.Need-show-words-requires
-show-words-requires c κs = search needs
 
 returns-2 : tie.Need-returns-2
 returns-2 c = search needs
@@ -94,14 +94,14 @@ binary-each-spec =
     part-copy-start
     part-copy-end
     copy-requires
-    sub-binary-each
-    part-binary-each-start
-    part-binary-each-end
-    mul-binary-each
-    sub-binary-each-2
-    part-binary-each-start-2
-    part-binary-each-end-2
+    sub-lefts
+    part-lefts-start
+    part-lefts-end
+    mul-rights
+    sub-rights
+    part-rights-start
+    part-rights-end
+    check-pairs-requires
     binary-each-requires
     show-stored-requires
-    show-words-requires
     returns-2)

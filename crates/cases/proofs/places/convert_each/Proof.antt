@@ -38,23 +38,23 @@ part-copy-end c = search needs
 copy-requires : tie.Need-copy-requires
 copy-requires c κs = search needs
 
-sub-convert-each : tie.Need-sub-convert-each
-sub-convert-each c = search needs
+sub-operands : tie.Need-sub-operands
+sub-operands c = search needs
 
-part-convert-each-start : tie.Need-part-convert-each-start
-part-convert-each-start c = search needs
+part-operands-start : tie.Need-part-operands-start
+part-operands-start c = search needs
 
-part-convert-each-end : tie.Need-part-convert-each-end
-part-convert-each-end c = search needs
+part-operands-end : tie.Need-part-operands-end
+part-operands-end c = search needs
+
+check-words-requires : tie.Need-check-words-requires
+check-words-requires c κs = search needs
 
 convert-each-requires : tie.Need-convert-each-requires
 convert-each-requires c κs = search needs
 
 show-stored-requires : tie.Need-show-stored-requires
 show-stored-requires c κs = search needs
-
-show-words-requires : tie.Need-show-words-requires
-show-words-requires c κs = search needs
 
 returns-2 : tie.Need-returns-2
 returns-2 c = search needs
@@ -74,10 +74,10 @@ convert-each-spec =
     part-copy-start
     part-copy-end
     copy-requires
-    sub-convert-each
-    part-convert-each-start
-    part-convert-each-end
+    sub-operands
+    part-operands-start
+    part-operands-end
+    check-words-requires
     convert-each-requires
     show-stored-requires
-    show-words-requires
     returns-2)

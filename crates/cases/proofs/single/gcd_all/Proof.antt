@@ -16,11 +16,14 @@ count-requires c κs = search needs
 loop-holds : tie.Need-loop-holds Inv-loop μ-loop
 loop-holds c = search needs
 
+separator-requires : tie.Need-separator-requires Inv-loop μ-loop
+separator-requires c κs = search needs
+
 gcd-requires : tie.Need-gcd-requires Inv-loop μ-loop
 gcd-requires c κs = search needs
 
-show-one-requires : tie.Need-show-one-requires Inv-loop μ-loop
-show-one-requires c κs = search needs
+show-divisor-requires : tie.Need-show-divisor-requires Inv-loop μ-loop
+show-divisor-requires c κs = search needs
 
 add-w : tie.Need-add-w Inv-loop μ-loop
 add-w c = search needs
@@ -42,8 +45,9 @@ gcd-all-spec =
     μ-loop
     count-requires
     loop-holds
+    separator-requires
     gcd-requires
-    show-one-requires
+    show-divisor-requires
     add-w
     loop-less
     loop-again

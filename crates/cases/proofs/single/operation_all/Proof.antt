@@ -16,6 +16,9 @@ count-requires c κs = search needs
 loop-holds : tie.Need-loop-holds Inv-loop μ-loop
 loop-holds c = search needs
 
+separator-requires : tie.Need-separator-requires Inv-loop μ-loop
+separator-requires c κs = search needs
+
 unary-requires : tie.Need-unary-requires Inv-loop μ-loop
 unary-requires c κs = search needs
 
@@ -42,6 +45,7 @@ operation-all-spec =
     μ-loop
     count-requires
     loop-holds
+    separator-requires
     unary-requires
     show-one-requires
     add-w

@@ -1,8 +1,8 @@
 -- `conversion::conversion::convert` meets its contract. Assumes nothing.
 use Rattle.conversion.proofs.ConversionLaws.{stop-source, stop-target, stop-word, convert-written, convert-made}
-use Rattle.slash.proofs.AnswerLaws.{told-stop}
-use Rattle.slash.proofs.FormatLaws.{told-known}
-use Rattle.slash.proofs.WordLaws.{check-stop, check-good, check-value, check-mark}
+use Rattle.slash.proofs.AnswerLaws.{completion-stop}
+use Rattle.slash.proofs.FormatLaws.{completion-known}
+use Rattle.slash.proofs.ReadingLaws.{check-stop, check-good, check-value, check-mark}
 use borrow.Author.Needs.{needs}
 use Rattle.conversion.proofs.conversion.convert.Statement.{statement}
 use Rattle.conversion.proofs.conversion.convert.Tie as tie
@@ -14,7 +14,7 @@ enum-known-s : tie.Need-enum-known-s
 enum-known-s c = search needs
 
 returns : tie.Need-returns
-returns c = (stop-source _ _ _ (told-stop (c .before .before .before .check .ensures) (c .before .s .given .1)), tt)
+returns c = (stop-source _ _ _ (completion-stop (c .before .before .before .check .ensures) (c .before .s .given .1)), tt)
 
 enum-told : tie.Need-enum-told
 enum-told c = search needs
@@ -26,7 +26,7 @@ enum-known-s-2 : tie.Need-enum-known-s-2
 enum-known-s-2 c = search needs
 
 returns-2 : tie.Need-returns-2
-returns-2 c = (stop-target _ _ _ (told-known _ (c .before .before .before .before .before .before .check .ensures) (c .before .before .before .before .enum-told .given .1)) (told-stop (c .before .before .before .check2 .ensures) (c .before .s2 .given .1)), tt)
+returns-2 c = (stop-target _ _ _ (completion-known _ (c .before .before .before .before .before .before .check .ensures) (c .before .before .before .before .enum-told .given .1)) (completion-stop (c .before .before .before .check2 .ensures) (c .before .s2 .given .1)), tt)
 
 enum-told-2 : tie.Need-enum-told-2
 enum-told-2 c = search needs
@@ -51,14 +51,14 @@ write-requires c κs = search needs
 
 returns-3 : tie.Need-returns-3
 returns-3 c =
-    let source = told-known _ (c .before .before .before .before .before .before .before .before .before .check .ensures) (c .before .before .before .before .before .before .before .enum-told .given .1) in
-    let target = told-known _ (c .before .before .before .before .before .before .check2 .ensures) (c .before .before .before .before .enum-told2 .given .1) in
+    let source = completion-known _ (c .before .before .before .before .before .before .before .before .before .check .ensures) (c .before .before .before .before .before .before .before .enum-told .given .1) in
+    let target = completion-known _ (c .before .before .before .before .before .before .check2 .ensures) (c .before .before .before .before .enum-told2 .given .1) in
     (stop-word _ _ _ source target (check-stop _ _ (c .before .before .before .check3 .ensures) (c .before .s3 .given .1)), tt)
 
 returns-4 : tie.Need-returns-4
 returns-4 c =
     let good = check-good _ _ (c .before .before .before .before .before .before .check3 .ensures) (c .before .before .before .before .x .given .1) in
-    let target = told-known _ (c .before .before .before .before .before .before .before .before .before .check2 .ensures) (c .before .before .before .before .before .before .before .enum-told2 .given .1) in
+    let target = completion-known _ (c .before .before .before .before .before .before .before .before .before .check2 .ensures) (c .before .before .before .before .before .before .before .enum-told2 .given .1) in
     let v = check-value _ _ (c .before .before .before .before .before .before .check3 .ensures) (c .before .before .before .before .x .given .1) (c .before .before .value .ensures) in
     let a = check-mark _ _ (c .before .before .before .before .before .before .check3 .ensures) (c .before .before .before .before .x .given .1) (c .before .is-approximate .ensures) in
     convert-made _ _ _ _ (convert-written _ _ _ (good, target) _ _ v a _ (c .write .ensures .0))

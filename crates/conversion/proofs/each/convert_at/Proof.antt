@@ -1,7 +1,7 @@
 -- `conversion::each::convert_at` meets its contract. Assumes nothing.
 use Rattle.conversion.proofs.ConversionLaws.{stop-word, convert-written}
 use Rattle.slash.proofs.AnswerLaws.{zero-stop, zero-done, written-stop, written-done}
-use Rattle.slash.proofs.WordLaws.{check-stop, check-good, check-value, check-mark}
+use Rattle.slash.proofs.ReadingLaws.{check-stop, check-good, check-value, check-mark}
 use borrow.Author.Needs.{needs}
 use Rattle.conversion.proofs.each.convert_at.Statement.{statement}
 use Rattle.conversion.proofs.each.convert_at.Tie as tie

@@ -1,7 +1,7 @@
 -- `euclid::divisor::gcd` meets its contract. Assumes nothing.
 use Rattle.euclid.specs.Divisor.{gcdWord}
 use Rattle.slash.proofs.AnswerLaws.{then-stop, then-done}
-use Rattle.slash.proofs.WordLaws.{check-stopped, check-good, check-value, checked-done}
+use Rattle.slash.proofs.ReadingLaws.{check-stopped, check-good, check-value, checked-done}
 use Rattle.slash.specs.Answers.{done}
 use mathlib.Core.Path.{refl, ap}
 use borrow.Author.Needs.{needs}

@@ -1,6 +1,6 @@
 -- `ffi::status::of_vector` meets its contract. Assumes nothing.
 use Rattle.ffi.proofs.StatusLaws.{vector-stop, vector-done}
-use Rattle.slash.proofs.AnswerLaws.{told-stop, told-done}
+use Rattle.slash.proofs.AnswerLaws.{completion-stop, completion-done}
 use mathlib.Core.Path.{refl}
 use borrow.Author.Needs.{needs}
 use Rattle.ffi.proofs.status.of_vector.Statement.{statement}
@@ -16,10 +16,10 @@ stop-status-requires : tie.Need-stop-status-requires
 stop-status-requires c κs = search needs
 
 returns : tie.Need-returns
-returns c = vector-done _ (told-done refl (c .enum-told .given .1))
+returns c = vector-done _ (completion-done refl (c .enum-told .given .1))
 
 returns-2 : tie.Need-returns-2
-returns-2 c = vector-stop _ _ (told-stop refl (c .before .before .r .given .1)) (c .stop-status .ensures)
+returns-2 c = vector-stop _ _ (completion-stop refl (c .before .before .r .given .1)) (c .stop-status .ensures)
 
 pub of-vector-spec : {M : Type 1} → statement M
 of-vector-spec = tie.close (tie.spec enum-told enum-known-r stop-status-requires returns returns-2)

@@ -1,6 +1,6 @@
 -- `ffi::status::store` meets its contract. Assumes nothing.
 use Rattle.ffi.proofs.StatusLaws.{status-stop, status-done}
-use Rattle.slash.specs.Answers.{outcome}
+use Rattle.slash.specs.Answers.{answerOutcome}
 use mathlib.Core.Path.{sym, ap}
 use borrow.Author.Needs.{needs}
 use Rattle.ffi.proofs.status.store.Statement.{statement}
@@ -16,10 +16,10 @@ stop-status-requires : tie.Need-stop-status-requires
 stop-status-requires c κs = search needs
 
 returns : tie.Need-returns
-returns c = status-done _ _ _ (sym (ap outcome (c .before .a .given .1)))
+returns c = status-done _ _ _ (sym (ap answerOutcome (c .before .a .given .1)))
 
 returns-2 : tie.Need-returns-2
-returns-2 c = status-stop _ _ _ (sym (ap outcome (c .before .before .a2 .given .1))) (c .stop-status .ensures)
+returns-2 c = status-stop _ _ _ (sym (ap answerOutcome (c .before .before .a2 .given .1))) (c .stop-status .ensures)
 
 pub store-spec : {M : Type 1} → statement M
 store-spec =

@@ -1,7 +1,7 @@
 -- `ffi::words::slash_unary` meets its contract. Assumes nothing.
 use Rattle.ffi.proofs.StatusLaws.{stored-best}
 use Rattle.slash.specs.Formats.{formatOf}
-use Rattle.unary.proofs.UnaryLaws.{unary-best}
+use Rattle.unary.proofs.OperationLaws.{unary-best}
 use borrow.Author.Needs.{needs}
 use Rattle.ffi.proofs.words.slash_unary.Statement.{statement}
 use Rattle.ffi.proofs.words.slash_unary.Tie as tie

@@ -1,5 +1,5 @@
 -- `listing::piece::list_piece` meets its contract. Assumes nothing.
-use Rattle.listing.proofs.LoopLaws.{piece-none, piece-untouched, piece-ended}
+use Rattle.listing.proofs.StepLaws.{piece-none, piece-untouched, piece-ended}
 use Rattle.listing.proofs.PieceLaws.{makes-listing}
 use Rattle.listing.proofs.BestLaws.{best-piece}
 use borrow.Author.Tests.{not-true, not-false}

@@ -1,5 +1,5 @@
 -- `listing::piece::put_lines` meets its contract. Assumes nothing.
-use Rattle.listing.proofs.LoopLaws.{Piecing, piecing-start, piecing-long, piecing-closed, piecing-stopped, piecing-used, piecing-again, piecing-open}
+use Rattle.listing.proofs.StepLaws.{Piecing, piecing-start, piecing-long, piecing-closed, piecing-stopped, piecing-used, piecing-again, piecing-open}
 use Rattle.listing.proofs.NightLaws.{real-night}
 use Rattle.text.proofs.NumberLaws.{stored-length}
 use native.Mathlib.Omega.{arith}

@@ -1,7 +1,7 @@
 -- `night_cases::pieces::make` meets its contract. Assumes nothing.
 use Rattle.listing.proofs.NightLaws.{begun-real, real-night}
-use Rattle.listing.proofs.LoopLaws.{piece-answer}
-use Rattle.listing.specs.Pieces.{isNight}
+use Rattle.listing.proofs.StepLaws.{piece-answer}
+use Rattle.listing.specs.Nights.{isNight}
 use Prim.Native.Nat.{ℕ, _+_, _-_, _≤_}
 use mathlib.Core.Bool.{true}
 use mathlib.Core.List.{List}

@@ -1,7 +1,8 @@
 -- `night_cases::pieces::store` meets its contract. Assumes nothing.
 use Rattle.listing.proofs.NightLaws.{begun-real, real-night}
 use Rattle.listing.proofs.PieceLaws.{piece-sound}
-use Rattle.listing.specs.Pieces.{isNight, pieceOf, answerOf}
+use Rattle.listing.specs.Nights.{isNight}
+use Rattle.listing.specs.Pieces.{pieceOf, answerOf}
 use Rattle.listing.specs.declared.night.Night.{Night}
 use Rattle.listing.specs.declared.piece.Piece.{Piece}
 use Prim.Native.Nat.{ℕ, _-_, _≤_}

@@ -49,28 +49,28 @@ length-before-requires-3 c κs = search needs
 returns-3 : tie.Need-returns-3
 returns-3 c = fields-four _ _ _ (c .before .before .before .before .before .before .before .length-before .ensures .1) (omega arith) _ (c .before .before .before .before .length-before2 .ensures .1) (omega arith) _ (c .before .length-before3 .ensures .1) (c .if3 .taken)
 
-slice-aggregate-read-mark : tie.Need-slice-aggregate-read-mark
-slice-aggregate-read-mark c = sym (length-take-le _ _ (c .before .before .before .before .before .before .before .before .length-before .ensures .0))
+slice-aggregate-read-tick : tie.Need-slice-aggregate-read-tick
+slice-aggregate-read-tick c = sym (length-take-le _ _ (c .before .before .before .before .before .before .before .before .length-before .ensures .0))
 
-read-mark-requires : tie.Need-read-mark-requires
-read-mark-requires c κs = search needs
+read-tick-requires : tie.Need-read-tick-requires
+read-tick-requires c κs = search needs
 
-slice-aggregate-read-mark-2 : tie.Need-slice-aggregate-read-mark-2
-slice-aggregate-read-mark-2 c = sym (length-take-le _ _ (c .before .before .before .before .before .before .before .length-before2 .ensures .0))
+slice-aggregate-read-tick-2 : tie.Need-slice-aggregate-read-tick-2
+slice-aggregate-read-tick-2 c = sym (length-take-le _ _ (c .before .before .before .before .before .before .before .length-before2 .ensures .0))
 
-read-mark-requires-2 : tie.Need-read-mark-requires-2
-read-mark-requires-2 c κs = search needs
+read-tick-requires-2 : tie.Need-read-tick-requires-2
+read-tick-requires-2 c κs = search needs
 
-read-mark-requires-3 : tie.Need-read-mark-requires-3
-read-mark-requires-3 c κs = search needs
+read-tick-requires-3 : tie.Need-read-tick-requires-3
+read-tick-requires-3 c κs = search needs
 
-from-marks-requires : tie.Need-from-marks-requires
-from-marks-requires c κs = search needs
+from-ticks-requires : tie.Need-from-ticks-requires
+from-ticks-requires c κs = search needs
 
 returns-4 : tie.Need-returns-4
 returns-4 c =
     fields-three _ _ _ (c .before .before .before .before .before .before .before .before .before .before .before .before .before .length-before .ensures .1) (omega arith) _ (c .before .before .before .before .before .before .before .before .before .before .length-before2 .ensures .1) (omega arith) _ (c .before .before .before .before .before .before .before .length-before3 .ensures .1) (c .before .before .before .before .before .before .if3 .left)
-    _ _ _ (c .before .before .before .before .read-mark .ensures) (c .before .before .read-mark2 .ensures) (c .before .read-mark3 .ensures) _ (c .from-marks .ensures)
+    _ _ _ (c .before .before .before .before .read-tick .ensures) (c .before .before .read-tick2 .ensures) (c .before .read-tick3 .ensures) _ (c .from-ticks .ensures)
 
 pub read-fields-spec : {M : Type 1} → statement M
 read-fields-spec =
@@ -90,10 +90,10 @@ read-fields-spec =
     part-last-end
     length-before-requires-3
     returns-3
-    slice-aggregate-read-mark
-    read-mark-requires
-    slice-aggregate-read-mark-2
-    read-mark-requires-2
-    read-mark-requires-3
-    from-marks-requires
+    slice-aggregate-read-tick
+    read-tick-requires
+    slice-aggregate-read-tick-2
+    read-tick-requires-2
+    read-tick-requires-3
+    from-ticks-requires
     returns-4)

@@ -1,5 +1,5 @@
 -- `recording::measure::digits_end` meets its contract. Assumes nothing.
-use Rattle.recording.proofs.StartLaws.{Running, running-start, running-end, running-low, running-high, running-next}
+use Rattle.recording.proofs.StepLaws.{Running, running-start, running-end, running-low, running-high, running-next}
 use borrow.Author.Tests.{ltb-true, ltb-false}
 use native.Mathlib.Omega.{arith}
 use Prim.Native.Nat.{_-_}

@@ -1,6 +1,6 @@
 -- `recording::reading::next_line` meets its contract. Assumes nothing.
 use Rattle.recording.proofs.ReadingLaws.{next-quick}
-use Rattle.recording.proofs.StartLaws.{sought}
+use Rattle.recording.proofs.StepLaws.{breath-found}
 use native.Mathlib.Omega.{arith}
 use borrow.Author.Needs.{needs}
 use Rattle.recording.proofs.reading.next_line.Statement.{statement}
@@ -13,7 +13,7 @@ enum-known-entry : tie.Need-enum-known-entry
 enum-known-entry c = search needs
 
 returns : tie.Need-returns
-returns c = next-quick _ (omega (arith, c .before .before .before .before .if1 .taken)) _ _ (sought _ _ (c .before .before .before .read-breath .ensures) _ (c .before .entry .given .1))
+returns c = next-quick _ (omega (arith, c .before .before .before .before .if1 .taken)) _ _ (breath-found _ _ (c .before .before .before .read-breath .ensures) _ (c .before .entry .given .1))
 
 enum-told : tie.Need-enum-told
 enum-told c = search needs

@@ -1,5 +1,5 @@
 -- `slash::fixed::fields` meets its contract. Assumes nothing.
-use Rattle.slash.proofs.WordLaws.{fixed-fields}
+use Rattle.slash.proofs.ReadingLaws.{fixed-fields}
 use borrow.Author.Needs.{needs}
 use Rattle.slash.proofs.fixed.fields.Statement.{statement}
 use Rattle.slash.proofs.fixed.fields.Tie as tie

@@ -1,5 +1,5 @@
 -- `slash::fixed::is_approximate` meets its contract. Assumes nothing.
-use Rattle.slash.specs.Words.{fixedNumber}
+use Rattle.slash.specs.Reading.{fixedNumber}
 use borrow.Author.Needs.{needs}
 use Rattle.slash.proofs.fixed.is_approximate.Statement.{statement}
 use Rattle.slash.proofs.fixed.is_approximate.Tie as tie

@@ -1,5 +1,5 @@
 -- `slash::fixed::parts_value` meets its contract. Assumes nothing.
-use Rattle.slash.proofs.WordLaws.{fixed-zero, fixed-nan-zero, fixed-infinity, fixed-nan-infinity, fixed-fraction}
+use Rattle.slash.proofs.ReadingLaws.{fixed-zero, fixed-nan-zero, fixed-infinity, fixed-nan-infinity, fixed-fraction}
 use Rattle.slash.proofs.fixed.parts_value.Statement.{statement}
 use Rattle.slash.proofs.fixed.parts_value.Tie as tie
 

@@ -1,5 +1,5 @@
 -- `slash::fixed::value` meets its contract. Assumes nothing.
-use Rattle.slash.proofs.WordLaws.{fixed-number}
+use Rattle.slash.proofs.ReadingLaws.{fixed-number}
 use borrow.Author.Needs.{needs}
 use Rattle.slash.proofs.fixed.value.Statement.{statement}
 use Rattle.slash.proofs.fixed.value.Tie as tie

@@ -1,5 +1,5 @@
 -- `slash::fixed::word` meets its contract. Assumes nothing.
-use Rattle.slash.proofs.WordLaws.{fixed-word}
+use Rattle.slash.proofs.FieldLaws.{fixed-word}
 use Rattle.slash.proofs.BitLaws.{bit-lt}
 use native.Mathlib.Omega.{arith}
 use borrow.Author.Needs.{needs}

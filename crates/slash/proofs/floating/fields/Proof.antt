@@ -1,5 +1,5 @@
 -- `slash::floating::fields` meets its contract. Assumes nothing.
-use Rattle.slash.proofs.WordLaws.{floating-fields-are}
+use Rattle.slash.proofs.ReadingLaws.{floating-fields-are}
 use Rattle.slash.proofs.FormatLaws.{slash-bits-le}
 use native.Mathlib.Omega.{arith}
 use borrow.Author.Needs.{needs}

@@ -1,5 +1,5 @@
 -- `slash::floating::fraction` meets its contract. Assumes nothing.
-use Rattle.slash.proofs.WordLaws.{floating-zero, parted-most, parted-fraction}
+use Rattle.slash.proofs.ReadingLaws.{floating-zero, parted-most, parted-fraction}
 use borrow.Author.Needs.{needs}
 use Rattle.slash.proofs.floating.fraction.Statement.{statement}
 use Rattle.slash.proofs.floating.fraction.Tie as tie

@@ -1,5 +1,5 @@
 -- `slash::floating::from_fields` meets its contract. Assumes nothing.
-use Rattle.slash.proofs.WordLaws.{floating-fields}
+use Rattle.slash.proofs.FieldLaws.{floating-fields}
 use Rattle.slash.proofs.FormatLaws.{slash-bits-le}
 use Prim.Native.Nat.{ℕ, _^_, _<_}
 use mathlib.Core.Path.{sym, subst}

@@ -1,5 +1,5 @@
 -- `slash::floating::is_approximate` meets its contract. Assumes nothing.
-use Rattle.slash.proofs.WordLaws.{floating-mark}
+use Rattle.slash.proofs.ReadingLaws.{floating-mark}
 use Rattle.slash.proofs.FormatLaws.{slash-bits-le}
 use native.Mathlib.Omega.{arith}
 use borrow.Author.Needs.{needs}

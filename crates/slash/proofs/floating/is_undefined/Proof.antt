@@ -1,5 +1,5 @@
 -- `slash::floating::is_undefined` meets its contract. Assumes nothing.
-use Rattle.slash.proofs.WordLaws.{undefined-is}
+use Rattle.slash.proofs.ReadingLaws.{undefined-is}
 use Rattle.slash.proofs.FormatLaws.{slash-bits-le, slash-bits-enough}
 use Prim.Native.Nat.{ℕ, _^_}
 use mathlib.Core.Path.{ap}

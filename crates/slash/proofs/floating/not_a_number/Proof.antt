@@ -1,7 +1,7 @@
 -- `slash::floating::not_a_number` meets its contract. Assumes nothing.
 use Prim.Native.Nat.{_≤_}
-use Rattle.slash.proofs.WordLaws.{special-lt}
-use Rattle.slash.specs.Words.{floatingWord, floatingNan}
+use Rattle.slash.proofs.FieldLaws.{special-lt}
+use Rattle.slash.specs.Writing.{floatingWord, floatingNan}
 use lib.Pow.{pow-mono}
 use Prim.Native.Nat.{ℕ, _-_}
 use mathlib.Core.Path.{ap, _∙_}

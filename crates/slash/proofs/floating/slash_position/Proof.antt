@@ -1,5 +1,5 @@
 -- `slash::floating::slash_position` meets its contract. Assumes nothing.
-use Rattle.slash.proofs.WordLaws.{slash-is}
+use Rattle.slash.proofs.ReadingLaws.{slash-is}
 use Rattle.slash.proofs.FormatLaws.{slash-bits-le}
 use native.Mathlib.Omega.{arith}
 use borrow.Author.Needs.{needs}

@@ -1,5 +1,5 @@
 -- `slash::floating::special` meets its contract. Assumes nothing.
-use Rattle.slash.proofs.WordLaws.{special-infinity, special-nan}
+use Rattle.slash.proofs.ReadingLaws.{special-infinity, special-nan}
 use Rattle.slash.proofs.floating.special.Statement.{statement}
 use Rattle.slash.proofs.floating.special.Tie as tie
 

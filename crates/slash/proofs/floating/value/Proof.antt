@@ -1,5 +1,5 @@
 -- `slash::floating::value` meets its contract. Assumes nothing.
-use Rattle.slash.proofs.WordLaws.{floating-number, floating-special}
+use Rattle.slash.proofs.ReadingLaws.{floating-number, floating-special}
 use Rattle.slash.proofs.BitLaws.{bits-lt}
 use Rattle.slash.proofs.FormatLaws.{slash-bits-le}
 use Prim.Native.Nat.{ℕ, _-_, _≤_}

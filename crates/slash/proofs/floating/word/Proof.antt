@@ -1,5 +1,5 @@
 -- `slash::floating::word` meets its contract. Assumes nothing.
-use Rattle.slash.proofs.WordLaws.{special-lt, pair-infinity, pair-fraction, Parted, parted}
+use Rattle.slash.proofs.FieldLaws.{special-lt, pair-infinity, pair-fraction, Parted, parted}
 use Rattle.slash.proofs.BitLaws.{bit-lt, bit-count-pos}
 use lib.Pow.{pow-pos}
 use Prim.Native.Nat.{_-_}

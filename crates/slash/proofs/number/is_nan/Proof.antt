@@ -1,6 +1,6 @@
 -- `slash::number::is_nan` meets its contract. Assumes nothing.
 use Rattle.slash.proofs.AnswerLaws.{at-one}
-use Rattle.slash.specs.Words.{isNan}
+use Rattle.slash.specs.Numbers.{isNan}
 use mathlib.Core.Path.{refl}
 use borrow.Author.Needs.{needs}
 use Rattle.slash.proofs.number.is_nan.Statement.{statement}

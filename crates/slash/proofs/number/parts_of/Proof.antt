@@ -1,5 +1,5 @@
 -- `slash::number::parts_of` meets its contract. Assumes nothing.
-use Rattle.slash.specs.Words.{partsOf}
+use Rattle.slash.specs.Numbers.{partsOf}
 use mathlib.Core.Path.{sym, ap}
 use borrow.Author.Needs.{needs}
 use Rattle.slash.proofs.number.parts_of.Statement.{statement}

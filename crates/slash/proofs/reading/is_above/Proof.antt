@@ -1,5 +1,5 @@
 -- `slash::reading::is_above` meets its contract. Assumes nothing.
-use Rattle.slash.proofs.WordLaws.{above-is}
+use Rattle.slash.proofs.ReadingLaws.{above-is}
 use borrow.Author.Needs.{needs}
 use Rattle.slash.proofs.reading.is_above.Statement.{statement}
 use Rattle.slash.proofs.reading.is_above.Tie as tie

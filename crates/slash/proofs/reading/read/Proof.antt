@@ -1,5 +1,5 @@
 -- `slash::reading::read` meets its contract. Assumes nothing.
-use Rattle.slash.proofs.WordLaws.{check-stopped, check-good, check-value, check-mark, checked-done}
+use Rattle.slash.proofs.ReadingLaws.{check-stopped, check-good, check-value, check-mark, checked-done}
 use borrow.Author.Needs.{needs}
 use Rattle.slash.proofs.reading.read.Statement.{statement}
 use Rattle.slash.proofs.reading.read.Tie as tie

@@ -3,8 +3,8 @@ use mathlib.Core.Path.{sym, _∙_}
 use native.Mathlib.Omega.{arith}
 use native.Mathlib.Nat.{mod-lt}
 use borrow.Author.Tests.{not-true, not-false}
-use Rattle.convergents.proofs.Euclid.{turn-bounds}
-use Rattle.convergents.proofs.Loop.{Going, going-start, going-next, going-end, going-stop}
+use Rattle.convergents.proofs.ConvergentLaws.{turn-bounds}
+use Rattle.convergents.proofs.RoundingLaws.{Going, going-start, going-next, going-end, going-stop}
 use Rattle.slash.specs.Formats.{holds}
 use Rattle.slash.proofs.FormatLaws.{format-limit}
 use Rattle.slash.proofs.RoundingLaws.{rounds-is}

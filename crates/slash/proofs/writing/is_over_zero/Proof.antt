@@ -1,5 +1,5 @@
 -- `slash::writing::is_over_zero` meets its contract. Assumes nothing.
-use Rattle.slash.proofs.WriteLaws.{over-fraction, over-zero, over-infinity, over-nan}
+use Rattle.slash.proofs.WritingLaws.{over-fraction, over-zero, over-infinity, over-nan}
 use borrow.Author.Needs.{needs}
 use Rattle.slash.proofs.writing.is_over_zero.Statement.{statement}
 use Rattle.slash.proofs.writing.is_over_zero.Tie as tie

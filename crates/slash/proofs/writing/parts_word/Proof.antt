@@ -1,5 +1,5 @@
 -- `slash::writing::parts_word` meets its contract. Assumes nothing.
-use Rattle.slash.proofs.WriteLaws.{parts-nan, parts-infinity, parts-rounded}
+use Rattle.slash.proofs.WritingLaws.{parts-nan, parts-infinity, parts-rounded}
 use Rattle.convergents.proofs.Optimal.{one-held}
 use mathlib.Core.Path.{refl}
 use native.Mathlib.Omega.{arith}

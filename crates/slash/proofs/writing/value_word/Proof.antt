@@ -1,5 +1,5 @@
 -- `slash::writing::value_word` meets its contract. Assumes nothing.
-use Rattle.slash.proofs.WriteLaws.{parts-value}
+use Rattle.slash.proofs.WritingLaws.{parts-value}
 use Rattle.slash.specs.Steps.{partsWord}
 use Rattle.slash.specs.declared.number.Parts.{Parts}
 use mathlib.Core.Path.{ap, _∙_}

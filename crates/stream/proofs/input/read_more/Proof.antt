@@ -39,7 +39,7 @@ same-length : tie.Need-same-length
 same-length c = search needs
 
 returns : tie.Need-returns
-returns c = (counts _ _ (omega arith), (grown _ _, take-put _ (length (c .before .before .before .before .before .before .before .before .args .buffer .now) - c .before .before .before .before .before .before .before .before .args .held) _ (c .before .before .before .before .before .read .last .1 .0) (below _ _ (c .before .before .before .before .before .before .before .before .pre .0))))
+returns c = (counts _ _ (omega arith), (grown _ _, take-put _ (length (c .before .before .before .before .before .before .before .before .args .buffer .now) - c .before .before .before .before .before .before .before .before .args .filled) _ (c .before .before .before .before .before .read .last .1 .0) (below _ _ (c .before .before .before .before .before .before .before .before .pre .0))))
 
 pub read-more-spec : {M : Type 1} → statement M
 read-more-spec =

@@ -1,5 +1,5 @@
 -- `text::columns::put_columns` meets its contract. Assumes nothing.
-use Rattle.text.proofs.ColumnLaws.{columns-are, shares-void, shares-word, shown-word}
+use Rattle.text.proofs.ColumnLaws.{columns-are, shares-void, shares-word, proportion-word}
 use Rattle.text.proofs.NumberLaws.{stored-length, chain, room-rest, room-first, room-as, stored-as}
 use mathlib.Core.Path.{sym}
 use borrow.Author.Needs.{needs}
@@ -29,7 +29,7 @@ enum-known-x c = search needs
 
 put-shares-requires : tie.Need-put-shares-requires
 put-shares-requires c κs =
-    (shown-word _ _ (c .before .before .x .given .1) (c .before .before .before .before .before .before .before .before .before .before .before .before .before .before .pre .0), room-as (sym (shares-word _ _ (c .before .before .x .given .1))) (room-rest (room-as (sym (columns-are _ _ (c .before .before .before .before .before .before .before .before .before .before .before .word .ensures))) (c .before .before .before .before .before .before .before .before .before .before .before .before .before .before .pre .1)) (chain (c .before .before .before .before .before .before .before .before .before .before .put-hexadecimal .ensures) (c .before .before .before .before .before .before .put-byte .ensures))))
+    (proportion-word _ _ (c .before .before .x .given .1) (c .before .before .before .before .before .before .before .before .before .before .before .before .before .before .pre .0), room-as (sym (shares-word _ _ (c .before .before .x .given .1))) (room-rest (room-as (sym (columns-are _ _ (c .before .before .before .before .before .before .before .before .before .before .before .word .ensures))) (c .before .before .before .before .before .before .before .before .before .before .before .before .before .before .pre .1)) (chain (c .before .before .before .before .before .before .before .before .before .before .put-hexadecimal .ensures) (c .before .before .before .before .before .before .put-byte .ensures))))
 
 same-length : tie.Need-same-length
 same-length c = stored-length (chain (chain (c .before .before .before .before .before .before .before .before .before .before .before .before .before .put-hexadecimal .ensures) (c .before .before .before .before .before .before .before .before .before .put-byte .ensures)) (c .before .before .put-text .ensures))

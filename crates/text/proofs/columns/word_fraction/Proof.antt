@@ -1,6 +1,6 @@
 -- `text::columns::word_fraction` meets its contract. Assumes nothing.
 use Rattle.text.proofs.ColumnLaws.{unsigned-good, fraction-parts, parts-small}
-use Rattle.slash.proofs.WordLaws.{check-stop, check-value}
+use Rattle.slash.proofs.ReadingLaws.{check-stop, check-value}
 use native.Mathlib.Omega.{arith}
 use borrow.Author.Needs.{needs}
 use Rattle.text.proofs.columns.word_fraction.Statement.{statement}

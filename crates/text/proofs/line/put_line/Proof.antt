@@ -1,5 +1,5 @@
 -- `text::line::put_line` meets its contract. Assumes nothing.
-use Rattle.text.proofs.LineLaws.{is-shown, line-no-room, line-no-name, line-not-shown, line-room, line-stored}
+use Rattle.text.proofs.LineLaws.{is-printable, line-no-room, line-no-name, line-not-printable, line-room, line-stored}
 use borrow.Author.Tests.{not-true, not-false}
 use native.Mathlib.Omega.{arith}
 use mathlib.Core.Path.{sym, _∙_}
@@ -22,20 +22,20 @@ is-name-requires c κs = search needs
 returns-3 : tie.Need-returns-3
 returns-3 c = line-no-name _ _ _ _ (sym (c .before .is-name .ensures) ∙ not-true _ (c .if3 .taken))
 
-is-shown-requires : tie.Need-is-shown-requires
-is-shown-requires c κs = search needs
+is-printable-requires : tie.Need-is-printable-requires
+is-printable-requires c κs = search needs
 
 returns-4 : tie.Need-returns-4
-returns-4 c = line-not-shown _ _ _ _ (sym (c .before .is-shown .ensures) ∙ not-true _ (c .if4 .taken))
+returns-4 c = line-not-printable _ _ _ _ (sym (c .before .is-printable .ensures) ∙ not-true _ (c .if4 .taken))
 
 put-whole-requires : tie.Need-put-whole-requires
-put-whole-requires c κs = (sym (c .before .before .before .before .is-name .ensures) ∙ not-false _ (c .before .before .before .if3 .left), is-shown _ (sym (c .before .before .is-shown .ensures) ∙ not-false _ (c .before .if4 .left)), line-room _ _ _ _ (omega (arith, c .before .before .before .before .before .if2 .left, c .before .before .before .before .before .before .if1 .left)) (sym (c .before .before .before .before .is-name .ensures) ∙ not-false _ (c .before .before .before .if3 .left)) (sym (c .before .before .is-shown .ensures) ∙ not-false _ (c .before .if4 .left)))
+put-whole-requires c κs = (sym (c .before .before .before .before .is-name .ensures) ∙ not-false _ (c .before .before .before .if3 .left), is-printable _ (sym (c .before .before .is-printable .ensures) ∙ not-false _ (c .before .if4 .left)), line-room _ _ _ _ (omega (arith, c .before .before .before .before .before .if2 .left, c .before .before .before .before .before .before .if1 .left)) (sym (c .before .before .before .before .is-name .ensures) ∙ not-false _ (c .before .before .before .if3 .left)) (sym (c .before .before .is-printable .ensures) ∙ not-false _ (c .before .if4 .left)))
 
 same-length : tie.Need-same-length
 same-length c = search needs
 
 returns-5 : tie.Need-returns-5
-returns-5 c = line-stored _ _ _ _ (omega (arith, c .before .before .before .before .before .before .before .before .if2 .left, c .before .before .before .before .before .before .before .before .before .if1 .left)) (sym (c .before .before .before .before .before .before .before .is-name .ensures) ∙ not-false _ (c .before .before .before .before .before .before .if3 .left)) (sym (c .before .before .before .before .before .is-shown .ensures) ∙ not-false _ (c .before .before .before .before .if4 .left)) (c .before .before .put-whole .ensures)
+returns-5 c = line-stored _ _ _ _ (omega (arith, c .before .before .before .before .before .before .before .before .if2 .left, c .before .before .before .before .before .before .before .before .before .if1 .left)) (sym (c .before .before .before .before .before .before .before .is-name .ensures) ∙ not-false _ (c .before .before .before .before .before .before .if3 .left)) (sym (c .before .before .before .before .before .is-printable .ensures) ∙ not-false _ (c .before .before .before .before .if4 .left)) (c .before .before .put-whole .ensures)
 
 pub put-line-spec : {M : Type 1} → statement M
 put-line-spec =
@@ -46,7 +46,7 @@ put-line-spec =
     returns-2
     is-name-requires
     returns-3
-    is-shown-requires
+    is-printable-requires
     returns-4
     put-whole-requires
     same-length

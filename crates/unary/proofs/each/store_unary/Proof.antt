@@ -1,7 +1,8 @@
 -- `unary::each::store_unary` meets its contract. Assumes nothing.
-use Rattle.vectors.proofs.EachLaws.{word-at, store-next, store-end}
-use Rattle.slash.specs.Answers.{orZero}
-use Rattle.unary.specs.Unary.{unaryWord}
+use Rattle.vectors.proofs.EachLaws.{word-at, storing-next, storing-end}
+use Rattle.slash.specs.Steps.{orZero}
+use Rattle.unary.specs.Operations.{unaryWord}
+use Rattle.vectors.specs.Steps.{Storing}
 use borrow.Author.Needs.{needs}
 use native.Mathlib.Omega.{arith}
 use mathlib.Core.Path.{_≡_, refl, sym, _∙_}
@@ -12,7 +13,7 @@ use Rattle.unary.proofs.each.store_unary.Statement.{statement}
 use Rattle.unary.proofs.each.store_unary.Tie as tie
 
 abbrev Inv-loop : tie.InvT-loop
-Inv-loop f code operand out₀ i₀ out i = (i ≤ length operand) × (length out ≡ length out₀) × (take i out ++ map (λ x. orZero (unaryWord f code x)) (drop i operand) ≡ map (λ x. orZero (unaryWord f code x)) operand)
+Inv-loop f code operand out₀ i₀ out i = Storing (λ x. orZero (unaryWord f code x)) operand out₀ out i
 
 abbrev μ-loop : tie.MeasureT-loop
 μ-loop f code operand out₀ i₀ out i = length operand - i
@@ -47,13 +48,8 @@ loop-again : tie.Need-loop-again Inv-loop μ-loop
 loop-again c =
     let start = c .before .before .before .before .before .before in
     let at = c .before .before .before .loop in
-    let below = c .before .before .loop-test .taken in (
-      omega arith,
-      simp length-set (at .inv .1),
-      store-next (λ (x : ℕ). orZero (unaryWord (start .args .f) (start .args .code) x)) (start .args .operand .now) (at .out) (at .i) _ _ (word-at (start .args .operand .now) (at .i) below)
-          (omega (arith, below, start .pre .2, at .inv .1)) (c .unary-at .ensures)
-          ∙ at .inv .2,
-    )
+    let below = c .before .before .loop-test .taken in
+    storing-next (λ (x : ℕ). orZero (unaryWord (start .args .f) (start .args .code) x)) (start .args .operand .now) (start .args .out .now) (at .out) (at .i) (at .inv) (start .pre .2) _ _ (word-at (start .args .operand .now) (at .i) below) below (c .unary-at .ensures)
 
 same-length : tie.Need-same-length Inv-loop μ-loop
 same-length c = c .before .loop .inv .1
@@ -61,8 +57,7 @@ same-length c = c .before .loop .inv .1
 returns : tie.Need-returns Inv-loop μ-loop
 returns c =
     let start = c .before .before .before .before in
-    let at = c .before .loop in
-    sym (store-end (λ (x : ℕ). orZero (unaryWord (start .args .f) (start .args .code) x)) (start .args .operand .now) (at .out) (at .i) (c .loop-test .left) (omega (arith, c .loop-test .left, start .pre .2, at .inv .1))) ∙ at .inv .2
+    storing-end (λ (x : ℕ). orZero (unaryWord (start .args .f) (start .args .code) x)) (start .args .operand .now) (start .args .out .now) (c .before .loop .out) (c .before .loop .i) (c .before .loop .inv) (start .pre .2) (c .loop-test .left)
 
 pub store-unary-spec : {M : Type 1} → statement M
 store-unary-spec =

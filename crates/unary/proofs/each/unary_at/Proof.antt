@@ -1,7 +1,7 @@
 -- `unary::each::unary_at` meets its contract. Assumes nothing.
-use Rattle.unary.proofs.UnaryLaws.{good-small, good-touched, good-written, good-fraction, stop-word, unary-made}
+use Rattle.unary.proofs.OperationLaws.{good-small, good-touched, good-written, good-fraction, stop-word, unary-made}
 use Rattle.slash.proofs.AnswerLaws.{zero-stop, zero-done}
-use Rattle.slash.proofs.WordLaws.{check-stop, check-good, check-value, check-mark}
+use Rattle.slash.proofs.ReadingLaws.{check-stop, check-good, check-value, check-mark}
 use mathlib.Core.Path.{refl}
 use borrow.Author.Needs.{needs}
 use Rattle.unary.proofs.each.unary_at.Statement.{statement}

@@ -1,8 +1,8 @@
 -- `unary::operation::ceiling_parts` meets its contract. Assumes nothing.
-use Rattle.unary.proofs.UnaryLaws.{whole-small, whole-returns, numerator-small}
-use Rattle.unary.proofs.SignedLaws.{ceiling-size}
+use Rattle.unary.proofs.OperationLaws.{whole-small, whole-returns, numerator-small}
+use Rattle.unary.proofs.FloorLaws.{ceiling-size}
 use Rattle.unary.specs.Floor.{ceilingBy}
-use Rattle.unary.specs.Unary.{ceilingParts}
+use Rattle.unary.specs.Operations.{ceilingParts}
 use native.Mathlib.Omega.{arith}
 use borrow.Author.Needs.{needs}
 use Rattle.unary.proofs.operation.ceiling_parts.Statement.{statement}

@@ -1,5 +1,5 @@
 -- `unary::operation::exact_infinity` meets its contract. Assumes nothing.
-use Rattle.unary.proofs.UnaryLaws.{infinity-reciprocal, infinity-mod, infinity-same}
+use Rattle.unary.proofs.OperationLaws.{infinity-reciprocal, infinity-mod, infinity-same}
 use Rattle.unary.proofs.operation.exact_infinity.Statement.{statement}
 use Rattle.unary.proofs.operation.exact_infinity.Tie as tie
 

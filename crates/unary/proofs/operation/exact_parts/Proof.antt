@@ -1,6 +1,6 @@
 -- `unary::operation::exact_parts` meets its contract. Assumes nothing.
-use Rattle.unary.proofs.UnaryLaws.{parts-reciprocal, parts-floor, parts-ceiling, parts-mod, parts-same}
-use Rattle.unary.specs.Unary.{reciprocalParts}
+use Rattle.unary.proofs.OperationLaws.{parts-reciprocal, parts-floor, parts-ceiling, parts-mod, parts-same}
+use Rattle.unary.specs.Operations.{reciprocalParts}
 use mathlib.Core.Path.{_∙_}
 use borrow.Author.Needs.{needs}
 use Rattle.unary.proofs.operation.exact_parts.Statement.{statement}

@@ -1,5 +1,5 @@
 -- `unary::operation::exact_value` meets its contract. Assumes nothing.
-use Rattle.unary.specs.Unary.{exactUnary}
+use Rattle.unary.specs.Operations.{exactUnary}
 use Rattle.slash.proofs.AnswerLaws.{at-one}
 use Rattle.slash.specs.declared.number.Value.the-variants.{Fraction}
 use mathlib.Core.Path.{refl, ap}

@@ -1,5 +1,5 @@
 -- `unary::operation::exact_zero` meets its contract. Assumes nothing.
-use Rattle.unary.proofs.UnaryLaws.{zero-reciprocal, zero-same, zero-plain}
+use Rattle.unary.proofs.OperationLaws.{zero-reciprocal, zero-same, zero-plain}
 use Rattle.unary.proofs.operation.exact_zero.Statement.{statement}
 use Rattle.unary.proofs.operation.exact_zero.Tie as tie
 

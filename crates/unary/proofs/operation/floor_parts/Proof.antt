@@ -1,8 +1,8 @@
 -- `unary::operation::floor_parts` meets its contract. Assumes nothing.
-use Rattle.unary.proofs.UnaryLaws.{whole-small, whole-returns}
-use Rattle.unary.proofs.SignedLaws.{floor-size}
+use Rattle.unary.proofs.OperationLaws.{whole-small, whole-returns}
+use Rattle.unary.proofs.FloorLaws.{floor-size}
 use Rattle.unary.specs.Floor.{floorBy}
-use Rattle.unary.specs.Unary.{floorParts}
+use Rattle.unary.specs.Operations.{floorParts}
 use borrow.Author.Needs.{needs}
 use Rattle.unary.proofs.operation.floor_parts.Statement.{statement}
 use Rattle.unary.proofs.operation.floor_parts.Tie as tie

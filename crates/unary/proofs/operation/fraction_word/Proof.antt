@@ -1,5 +1,5 @@
 -- `unary::operation::fraction_word` meets its contract. Assumes nothing.
-use Rattle.unary.proofs.UnaryLaws.{fraction-written}
+use Rattle.unary.proofs.OperationLaws.{fraction-written}
 use Rattle.slash.proofs.AnswerLaws.{zero-stop, zero-done, written-stop, written-done}
 use mathlib.Core.Path.{refl}
 use borrow.Author.Needs.{needs}

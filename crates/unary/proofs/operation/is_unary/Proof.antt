@@ -1,5 +1,5 @@
 -- `unary::operation::is_unary` meets its contract. Assumes nothing.
-use Rattle.unary.specs.Unary.{isUnary}
+use Rattle.unary.specs.Operations.{isUnary}
 use mathlib.Core.Path.{refl}
 use Rattle.unary.proofs.operation.is_unary.Statement.{statement}
 use Rattle.unary.proofs.operation.is_unary.Tie as tie

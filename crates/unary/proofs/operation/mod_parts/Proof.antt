@@ -1,5 +1,5 @@
 -- `unary::operation::mod_parts` meets its contract. Assumes nothing.
-use Rattle.unary.proofs.UnaryLaws.{numerator-small, mod-returns}
+use Rattle.unary.proofs.OperationLaws.{numerator-small, mod-returns}
 use native.Mathlib.Omega.{arith}
 use borrow.Author.Needs.{needs}
 use Rattle.unary.proofs.operation.mod_parts.Statement.{statement}

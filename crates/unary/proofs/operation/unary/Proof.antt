@@ -1,8 +1,8 @@
 -- `unary::operation::unary` meets its contract. Assumes nothing.
-use Rattle.unary.proofs.UnaryLaws.{good-small, good-touched, good-written, good-fraction, stop-format, stop-code, stop-word, unary-made}
-use Rattle.slash.proofs.AnswerLaws.{plain-stop, told-stop}
-use Rattle.slash.proofs.FormatLaws.{told-known}
-use Rattle.slash.proofs.WordLaws.{check-stop, check-good, check-value, check-mark}
+use Rattle.unary.proofs.OperationLaws.{good-small, good-touched, good-written, good-fraction, stop-format, stop-code, stop-word, unary-made}
+use Rattle.slash.proofs.AnswerLaws.{plain-stop, completion-stop}
+use Rattle.slash.proofs.FormatLaws.{completion-known}
+use Rattle.slash.proofs.ReadingLaws.{check-stop, check-good, check-value, check-mark}
 use borrow.Author.Tests.{not-true, not-false}
 use mathlib.Core.Path.{refl, sym, _∙_}
 use borrow.Author.Needs.{needs}
@@ -16,7 +16,7 @@ enum-known-s : tie.Need-enum-known-s
 enum-known-s c = search needs
 
 returns : tie.Need-returns
-returns c = (stop-format _ _ _ (told-stop (c .before .before .before .check .ensures) (c .before .s .given .1)), λ l. tt)
+returns c = (stop-format _ _ _ (completion-stop (c .before .before .before .check .ensures) (c .before .s .given .1)), λ l. tt)
 
 enum-told : tie.Need-enum-told
 enum-told c = search needs
@@ -29,7 +29,7 @@ plain-requires c κs = search needs
 
 returns-2 : tie.Need-returns-2
 returns-2 c =
-    let known = told-known _ (c .before .before .before .before .before .check .ensures) (c .before .before .before .enum-told .given .1) in
+    let known = completion-known _ (c .before .before .before .before .before .check .ensures) (c .before .before .before .enum-told .given .1) in
     (plain-stop _ 2 (c .plain .ensures) (stop-code _ _ _ known (sym (c .before .before .is-unary .ensures) ∙ not-true _ (c .before .if1 .taken))), λ l. tt)
 
 check-requires-2 : tie.Need-check-requires-2
@@ -48,11 +48,11 @@ is-sign-touch-requires : tie.Need-is-sign-touch-requires
 is-sign-touch-requires c κs = search needs
 
 touch-sign-requires : tie.Need-touch-sign-requires
-touch-sign-requires c κs = told-known _ (c .before .before .before .before .before .before .before .before .before .before .before .check .ensures) (c .before .before .before .before .before .before .before .before .before .enum-told .given .1)
+touch-sign-requires c κs = completion-known _ (c .before .before .before .before .before .before .before .before .before .before .before .check .ensures) (c .before .before .before .before .before .before .before .before .before .enum-told .given .1)
 
 returns-3 : tie.Need-returns-3
 returns-3 c =
-    let known = told-known _ (c .before .before .before .before .before .before .before .before .before .before .before .before .check .ensures) (c .before .before .before .before .before .before .before .before .before .before .enum-told .given .1) in
+    let known = completion-known _ (c .before .before .before .before .before .before .before .before .before .before .before .before .check .ensures) (c .before .before .before .before .before .before .before .before .before .before .enum-told .given .1) in
     let good = check-good _ _ (c .before .before .before .before .before .before .before .check2 .ensures) (c .before .before .before .before .before .x .given .1) in
     let v = check-value _ _ (c .before .before .before .before .before .before .before .check2 .ensures) (c .before .before .before .before .before .x .given .1) (c .before .before .before .value .ensures) in
     let m =
@@ -75,7 +75,7 @@ special-word-requires c κs =
 
 returns-4 : tie.Need-returns-4
 returns-4 c =
-    let known = told-known _ (c .before .before .before .before .before .before .before .before .before .before .before .before .before .before .check .ensures) (c .before .before .before .before .before .before .before .before .before .before .before .before .enum-told .given .1) in
+    let known = completion-known _ (c .before .before .before .before .before .before .before .before .before .before .before .before .before .before .check .ensures) (c .before .before .before .before .before .before .before .before .before .before .before .before .enum-told .given .1) in
     let good = check-good _ _ (c .before .before .before .before .before .before .before .before .before .check2 .ensures) (c .before .before .before .before .before .before .before .x .given .1) in
     let v = check-value _ _ (c .before .before .before .before .before .before .before .before .before .check2 .ensures) (c .before .before .before .before .before .before .before .x .given .1) (c .before .before .before .before .before .value .ensures) in
     let a = check-mark _ _ (c .before .before .before .before .before .before .before .before .before .check2 .ensures) (c .before .before .before .before .before .before .before .x .given .1) (c .before .before .is-approximate .ensures) in
@@ -93,12 +93,12 @@ fraction-word-requires c κs =
 
 returns-5 : tie.Need-returns-5
 returns-5 c =
-    let known = told-known _ (c .before .before .before .before .before .before .before .before .check .ensures) (c .before .before .before .before .before .before .enum-told .given .1) in
+    let known = completion-known _ (c .before .before .before .before .before .before .before .before .check .ensures) (c .before .before .before .before .before .before .enum-told .given .1) in
     (stop-word _ _ _ known (sym (c .before .before .before .before .before .is-unary .ensures) ∙ not-false _ (c .before .before .before .before .if1 .left)) (check-stop _ _ (c .before .before .before .check2 .ensures) (c .before .s2 .given .1)), λ l. tt)
 
 returns-6 : tie.Need-returns-6
 returns-6 c =
-    let known = told-known _ (c .before .before .before .before .before .before .before .before .before .before .before .before .before .before .before .before .check .ensures) (c .before .before .before .before .before .before .before .before .before .before .before .before .before .before .enum-told .given .1) in
+    let known = completion-known _ (c .before .before .before .before .before .before .before .before .before .before .before .before .before .before .before .before .check .ensures) (c .before .before .before .before .before .before .before .before .before .before .before .before .before .before .enum-told .given .1) in
     let good = check-good _ _ (c .before .before .before .before .before .before .before .before .before .before .before .check2 .ensures) (c .before .before .before .before .before .before .before .before .before .x .given .1) in
     let v = check-value _ _ (c .before .before .before .before .before .before .before .before .before .before .before .check2 .ensures) (c .before .before .before .before .before .before .before .before .before .x .given .1) (c .before .before .before .before .before .before .before .value .ensures) in
     let a = check-mark _ _ (c .before .before .before .before .before .before .before .before .before .before .before .check2 .ensures) (c .before .before .before .before .before .before .before .before .before .x .given .1) (c .before .before .before .before .is-approximate .ensures) in

@@ -1,5 +1,5 @@
 -- `unary::operation::whole_parts` meets its contract. Assumes nothing.
-use Rattle.unary.proofs.UnaryLaws.{whole-is}
+use Rattle.unary.proofs.OperationLaws.{whole-is}
 use borrow.Author.Needs.{needs}
 use Rattle.unary.proofs.operation.whole_parts.Statement.{statement}
 use Rattle.unary.proofs.operation.whole_parts.Tie as tie

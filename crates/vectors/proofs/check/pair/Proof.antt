@@ -1,5 +1,5 @@
 -- `vectors::check::pair` meets its contract. Assumes nothing.
-use Rattle.slash.proofs.WordLaws.{check-stop, check-good}
+use Rattle.slash.proofs.ReadingLaws.{check-stop, check-good}
 use Rattle.slash.proofs.AnswerLaws.{then-stop, then-done}
 use Rattle.vectors.specs.Checks.{checkOperands}
 use mathlib.Core.Path.{sym}

@@ -1,8 +1,8 @@
 -- `vectors::check::pairs` meets its contract. Assumes nothing.
 use Rattle.vectors.proofs.EachLaws.{operands-at, length-places, check-next, check-stop, check-end}
-use Rattle.slash.proofs.AnswerLaws.{told-stop, told-done}
-use Rattle.slash.specs.Answers.{toldOutcome}
-use Rattle.vectors.specs.Vectors.{places}
+use Rattle.slash.proofs.AnswerLaws.{completion-stop, completion-done}
+use Rattle.slash.specs.Answers.{completionOutcome}
+use Rattle.vectors.specs.Places.{places}
 use Rattle.vectors.specs.Checks.{checks, checkOperands}
 use borrow.Author.Needs.{needs}
 use native.Mathlib.Omega.{arith}
@@ -46,8 +46,8 @@ returns : tie.Need-returns Inv-loop μ-loop
 returns c =
     let at = c .before .before .before .before .before .before .before .before .loop in
     let same = c .before .before .before .before .before .before .before .before .before .before .before .pre in
-    ap toldOutcome (c .at-place .ensures)
-    ∙ check-stop (checkOperands _) _ _ _ (operands-at _ _ _ same (c .before .before .before .before .before .before .before .loop-test .taken)) (told-stop (c .before .before .before .before .pair .ensures) (c .before .before .s .given .1))
+    ap completionOutcome (c .at-place .ensures)
+    ∙ check-stop (checkOperands _) _ _ _ (operands-at _ _ _ same (c .before .before .before .before .before .before .before .loop-test .taken)) (completion-stop (c .before .before .before .before .pair .ensures) (c .before .before .s .given .1))
     ∙ at .inv .1
 
 enum-told : tie.Need-enum-told Inv-loop μ-loop
@@ -64,7 +64,7 @@ loop-again c =
     let at = c .before .before .before .before .before .before .loop in
     let same = c .before .before .before .before .before .before .before .before .before .pre in (
       omega arith,
-      check-next (checkOperands _) _ _ _ (operands-at _ _ _ same (c .before .before .before .before .before .loop-test .taken)) (told-done (c .before .before .pair .ensures) (c .enum-told .given .1)) ∙ at .inv .1,
+      check-next (checkOperands _) _ _ _ (operands-at _ _ _ same (c .before .before .before .before .before .loop-test .taken)) (completion-done (c .before .before .pair .ensures) (c .enum-told .given .1)) ∙ at .inv .1,
     )
 
 returns-2 : tie.Need-returns-2 Inv-loop μ-loop

@@ -1,9 +1,8 @@
 -- `vectors::check::words` meets its contract. Assumes nothing.
 use Rattle.vectors.proofs.EachLaws.{word-at, check-next, check-stop, check-end}
-use Rattle.slash.proofs.WordLaws.{check-good}
-use Rattle.slash.proofs.WordLaws.{check-stop as word-stop}
-use Rattle.slash.specs.Words.{checkWord}
-use Rattle.slash.specs.Answers.{toldOutcome}
+use Rattle.slash.proofs.ReadingLaws.{check-good, check-stop as word-stop}
+use Rattle.slash.specs.Reading.{checkWord}
+use Rattle.slash.specs.Answers.{completionOutcome}
 use Rattle.vectors.specs.Checks.{checks}
 use borrow.Author.Needs.{needs}
 use native.Mathlib.Omega.{arith}
@@ -40,7 +39,7 @@ at-place-requires c κs = search needs
 returns : tie.Need-returns Inv-loop μ-loop
 returns c =
     let at = c .before .before .before .before .before .before .before .loop in
-    ap toldOutcome (c .at-place .ensures)
+    ap completionOutcome (c .at-place .ensures)
     ∙ check-stop (checkWord _) _ _ _ (word-at _ _ (c .before .before .before .before .before .before .loop-test .taken)) (word-stop _ _ (c .before .before .before .before .check .ensures) (c .before .before .s .given .1))
     ∙ at .inv .1
 

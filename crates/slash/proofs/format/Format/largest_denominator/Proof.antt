@@ -1,29 +1,13 @@
 -- `slash::format::Format::largest_denominator` meets its contract. Assumes nothing.
-use Rattle.slash.proofs.AnswerLaws.{told-stop}
-use Rattle.slash.proofs.FormatLaws.{told-known, of-known, of-refused}
-use Rattle.slash.specs.Answers.{done}
-use mathlib.Core.Path.{ap, _∙_}
 use borrow.Author.Needs.{needs}
 use Rattle.slash.proofs.format.Format.largest_denominator.Statement.{statement}
 use Rattle.slash.proofs.format.Format.largest_denominator.Tie as tie
 
-check-requires : tie.Need-check-requires
-check-requires c κs = search needs
-
-enum-known-s : tie.Need-enum-known-s
-enum-known-s c = search needs
-
-enum-told : tie.Need-enum-told
-enum-told c = search needs
-
-largest-part-requires : tie.Need-largest-part-requires
-largest-part-requires c κs = told-known _ (c .before .before .check .ensures) (c .enum-told .given .1)
+largest-numerator-requires : tie.Need-largest-numerator-requires
+largest-numerator-requires c κs = search needs
 
 returns : tie.Need-returns
-returns c = of-refused _ _ (told-stop (c .before .before .before .check .ensures) (c .before .s .given .1))
-
-returns-2 : tie.Need-returns-2
-returns-2 c = ap done (c .largest-part .ensures) ∙ of-known _ _ (told-known _ (c .before .before .before .check .ensures) (c .before .enum-told .given .1))
+returns c = c .largest-numerator .ensures
 
 pub largest-denominator-spec : {M : Type 1} → statement M
-largest-denominator-spec = tie.close (tie.spec check-requires enum-known-s enum-told largest-part-requires returns returns-2)
+largest-denominator-spec = tie.close (tie.spec largest-numerator-requires returns)

@@ -1,5 +1,5 @@
 -- `slash::reading::GoodWord::fields` meets its contract. Assumes nothing.
-use Rattle.slash.proofs.WordLaws.{fields-unfit, fields-fixed, fields-floating}
+use Rattle.slash.proofs.ReadingLaws.{fields-unfit, fields-fixed, fields-floating}
 use Rattle.slash.proofs.FormatLaws.{fixed-fit, fit-k}
 use Rattle.slash.specs.declared.fields.Fields.the-variants.{Fixed, Floating}
 use borrow.Author.Tests.{not-true, not-false}

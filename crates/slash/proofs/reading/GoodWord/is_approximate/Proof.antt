@@ -1,5 +1,5 @@
 -- `slash::reading::GoodWord::is_approximate` meets its contract. Assumes nothing.
-use Rattle.slash.proofs.WordLaws.{number-unfit, fixed-fits, floating-fits}
+use Rattle.slash.proofs.ReadingLaws.{number-unfit, fixed-fits, floating-fits}
 use Rattle.slash.proofs.FormatLaws.{fixed-fit, fit-k}
 use Rattle.slash.specs.declared.number.Number.{Number}
 use borrow.Author.Tests.{not-true, not-false}

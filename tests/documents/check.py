@@ -1,0 +1,125 @@
+"""Checks that what the documents cite is there, and that what is there is cited.
+
+    python3 tests/documents/check.py [ROOT]
+
+In docs/CLAIMS.md and docs/WRONG_PROGRAMS.md, cell by cell (the forms are in citations.py):
+definitions in the module of the crate that is named, public laws in its proofs, public functions
+and their clauses, must-fail edits, cases of the second program, decisions. In every other document:
+each name in backticks is that of something in the repository, and behind a crate's name of
+something of that crate. Then: every must-fail edit is cited under its crate, every public function
+has two wrong programs and a row in CLAIMS.md, every crate has a row in README.md or
+ARCHITECTURE.md, include/slash.h declares the functions of crates/ffi and no others, and what must
+be trusted stands apart (trusted.py).
+
+Prints each failure as `file:line: what is wrong`, and ends with status 1 where there is any.
+"""
+
+import sys
+from collections import Counter
+from pathlib import Path
+
+sys.dont_write_bytecode = True
+
+from citations import names_in, rows
+from repository import Repository
+from tables import CLAIMS, WRONG, Tables
+from trusted import Trusted
+from words import Words
+
+README, ARCHITECTURE, HEADER = "README.md", "docs/ARCHITECTURE.md", "include/slash.h"
+
+# Measured figures, written by a program.
+LEFT_OUT = {"bench/RESULTS.md"}
+
+
+class Findings:
+    """The failures, and how much was looked at."""
+
+    def __init__(self):
+        self.failures, self.counts = set(), Counter()
+
+    def fail(self, path, line, what):
+        """Notes a failure."""
+        self.failures.add((path, line, what))
+
+
+class Check:
+    """All checks of one repository."""
+
+    def __init__(self, root):
+        self.repo = Repository(root)
+        self.findings = Findings()
+        self.words = Words(self.repo, self.findings)
+        self.tables = Tables(self.repo, self.words, self.findings)
+        self.trusted = Trusted(self.repo, self.findings)
+
+    def run(self):
+        """Every check; the failures in the order of files and lines."""
+        self.tables.check_claims()
+        self.tables.check_wrong_programs()
+        for path in sorted(path for path in self.repo.files if path.endswith(".md")):
+            if path not in LEFT_OUT:
+                self.words.check_document(path, tables=path not in (CLAIMS, WRONG))
+        self.words.check_decisions()
+        self.check_edits()
+        self.check_functions()
+        self.check_crates()
+        self.check_header()
+        self.trusted.check()
+        return sorted(self.findings.failures)
+
+    def check_edits(self):
+        """Every must-fail edit is cited under its crate."""
+        for crate, edits in self.repo.edits.items():
+            for edit in edits:
+                if (crate, edit) not in self.tables.edits_cited:
+                    path = f"crates/{crate}/must-fail/{edit}.edit"
+                    what = f"neither {CLAIMS} nor {WRONG} cites it under {crate}"
+                    self.findings.fail(path, 1, what)
+
+    def check_functions(self):
+        """Every public function has a row of CLAIMS.md and two wrong programs."""
+        for function in self.repo.public_functions():
+            key, name = (function.crate, function.title), f"`{function.title}` of {function.crate}"
+            number = self.tables.programs[key]
+            if key not in self.tables.claimed:
+                self.findings.fail(function.path, function.line, f"no row of {CLAIMS} has {name}")
+            if number < 2:
+                what = f"{name} has {number} wrong programs in {WRONG}, not two"
+                self.findings.fail(function.path, function.line, what)
+
+    def check_crates(self):
+        """Every crate has a row of README.md or ARCHITECTURE.md."""
+        described = set()
+        for path in (README, ARCHITECTURE):
+            for _, _, cells in rows(self.repo.text(path)):
+                described.update(name.removeprefix("crates/") for name in names_in(cells[0]))
+        for crate in set(self.repo.crates) - described:
+            what = f"no row, nor one of {ARCHITECTURE}, has the crate {crate}"
+            self.findings.fail(README, 1, what)
+
+    def check_header(self):
+        """The header declares what the crate for C defines."""
+        defined = {f.name for f in self.repo.public_functions() if f.crate == "ffi"}
+        for name in self.repo.header - defined:
+            self.findings.fail(HEADER, 1, f"declares `{name}`, which crates/ffi doesn't define")
+        for name in defined - self.repo.header:
+            self.findings.fail(HEADER, 1, f"doesn't declare `{name}` of crates/ffi")
+
+
+def main():
+    """Prints the failures, or how much was found good."""
+    root = sys.argv[1] if len(sys.argv) > 1 else Path(__file__).resolve().parents[2]
+    check = Check(root)
+    failures = check.run()
+    for path, line, what in failures:
+        print(f"{path}:{line}: {what}")
+    if failures:
+        sys.exit(1)
+    kinds = ("definition", "function", "clause", "law", "edit", "run", "decision", "name", "module")
+    counts = ", ".join(f"{check.findings.counts[kind]} {kind}s" for kind in kinds)
+    print(f"the documents cite what is there: {counts}")
+
+
+if __name__ == "__main__":
+    main()
