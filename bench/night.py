@@ -15,12 +15,18 @@ def cut(n, d):
     return r1, s1, 0
 
 
+def thousandths(n, d):
+    """The nearest whole number to 1000 n/d, at a tie the even one."""
+    below, rest = divmod(1000 * n, d)
+    return below + (d < 2 * rest + below % 2)
+
+
 def columns(inward, whole):
     """The word, its fraction and its percentage."""
     if whole == 0 or inward > whole:
         return "00000000\t-\t-\n"
     r, s, mark = cut(inward, whole)
-    tenths = (2000 * r + s) // (2 * s)
+    tenths = thousandths(r, s)
     return f"{r << 16 | mark << 15 | s:08x}\t{r}/{s}\t{tenths // 10}.{tenths % 10}\n"
 
 

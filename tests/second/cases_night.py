@@ -5,8 +5,11 @@ times. A comment line before each recipe names its case and is printed as it is.
 """
 
 import random
+from fractions import Fraction
+from math import gcd
 
 import night
+import slash
 from cases_common import chosen
 
 # The most bytes of a recipe and of a recording.
@@ -29,6 +32,13 @@ EXAMPLE_LISTING = (
 # A breath that goes before what is refused, and one that goes after.
 GOOD = b"0\t277\t642\n"
 LATER = b"642\t800\t1000\n"
+
+# A tie is a ratio whose percentage is halfway between two tenths. These are the
+# denominators of the ties in lowest terms.
+TIE_DENOMINATORS = (16, 80, 400, 2000)
+
+# With so many ratios in a recording its listing is short enough to be shown itself.
+SHOWN_RATIOS = 50
 
 
 # Recipes and what is printed for them.
@@ -114,6 +124,11 @@ def breath(inward, whole, onset=0):
     return line(onset, (onset + inward) % night.CLOCK, (onset + whole) % night.CLOCK)
 
 
+def parted(n, d, times=1):
+    """Two breaths, of 0.0 and of 100.0 percent, whose sums are n and d so many times."""
+    return breath(0, times * (d - n)) + breath(times * n, times * n)
+
+
 def once(*texts):
     """The one piece of these bytes."""
     return [(1, b"".join(texts))]
@@ -123,6 +138,48 @@ def alone_and_between(text):
     """A line by itself, and between good ones."""
     yield once(text)
     yield once(GOOD, text, LATER)
+
+
+def shown_ratios(ratios):
+    """Recordings of these ratios, each with a listing that is shown itself."""
+    for start in range(0, len(ratios), SHOWN_RATIOS):
+        case = once(*(breath(*ratio) for ratio in ratios[start : start + SHOWN_RATIOS]))
+        assert len(night.listing(recording(case))) <= LONGEST_SHOWN
+        yield case
+
+
+# Ties.
+
+
+def ties():
+    """Every tie in lowest terms, ascending."""
+    found = [ratio for d in TIE_DENOMINATORS for ratio in ties_over(d)]
+    return sorted(found, key=lambda ratio: Fraction(*ratio))
+
+
+def few_ties():
+    """The first two ties and the last two over each denominator."""
+    for d in TIE_DENOMINATORS:
+        yield from ties_over(d)[:2] + ties_over(d)[-2:]
+
+
+def ties_over(d):
+    """The ties in lowest terms with this denominator, ascending."""
+    return [(n, d) for n in range(1, d) if gcd(n, d) == 1]
+
+
+def next_to(n, d):
+    """The held ratios next below and next above n/d, which is in lowest terms.
+
+    The products across differ by 1, and of such ratios those with the largest
+    denominators are next to n/d. With s such a denominator: below n/d, s times n
+    is 1 more than a multiple of d; above it, 1 less.
+    """
+    largest = slash.largest_denominator(night.STORED)
+    inverse = pow(n, -1, d)
+    below = largest - (largest - inverse) % d
+    above = largest - (largest + inverse) % d
+    return (below * n // d, below), (above * n // d + 1, above)
 
 
 # 1. Breaths.
@@ -191,6 +248,35 @@ def percentages_of_the_fraction():
         for off in (-1, 0, 1):
             yield once(breath(times * n + off, times * d))
             yield once(breath(times * n + off, times * d), breath(0, 0))
+
+
+def every_tie():
+    """Every tie there is, ascending."""
+    yield from shown_ratios(ties())
+
+
+def next_to_every_tie():
+    """The held ratios next below and next above each tie."""
+    yield from shown_ratios([ratio for tie in ties() for ratio in next_to(*tie)])
+
+
+def sums_at_ties():
+    """Breaths that are no ties: their sums are one, or are a tick off and rounded to it."""
+    for n, d in few_ties():
+        yield once(parted(n, d))
+        yield once(breath(0, 0), parted(n, d), breath(d, n))
+        # Sums that pass 2^32.
+        large = (3, parted(n, d, night.LARGEST_TICK // d))
+        yield [large]
+        yield [large, (1, breath(0, 1))]
+        yield [large, (1, breath(1, 1))]
+
+
+def sums_next_to_ties():
+    """Breaths whose sums are the held ratios next below and next above a tie."""
+    for tie in few_ties():
+        for ratio in next_to(*tie):
+            yield once(parted(*ratio))
 
 
 def large_ratios():
@@ -491,6 +577,10 @@ GROUPS = [
     ends_of_the_ratio,
     percentages,
     percentages_of_the_fraction,
+    every_tie,
+    next_to_every_tie,
+    sums_at_ties,
+    sums_next_to_ties,
     large_ratios,
     widest_lines,
     line_feed_missing,

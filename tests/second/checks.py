@@ -1,8 +1,10 @@
 """Checks of this program itself, before it answers anything."""
 
 import random
+from fractions import Fraction
 from functools import lru_cache
 from itertools import product
+from math import gcd
 
 import night
 import operations
@@ -10,7 +12,7 @@ import slash
 import vectors
 from answers import LENT, answer
 from cases_common import chosen, small_formats
-from cases_night import EXAMPLE, EXAMPLE_LISTING
+from cases_night import EXAMPLE, EXAMPLE_LISTING, next_to, ties
 from checks_source import check_source
 from slash import FIXED, FRACTION, ZERO
 
@@ -127,19 +129,23 @@ RULE_ANSWERS = [
     ("z 1 3 1 2 2 2 1 256 7 8", "stop 4 1 stop 4 1 7 8"),
 ]
 
-# Recordings and their listings, worked out by hand from document 01's rules.
+# Recordings and their listings, worked out by hand from the rules of document 01 and
+# CR 1 of 02.
 NIGHT_LISTINGS = [
     (EXAMPLE, EXAMPLE_LISTING),
     (b"", b"refused\t12\t1\n"),
     (b"\n", b"refused\t10\t1\n"),
     (b"0\t1\t2", b"refused\t9\t1\n"),
     (b"0\t1\tx\n", b"refused\t11\t1\n"),
-    (b"0\t1\t16\nx\ty\n", b"1\t00010010\t1/16\t6.3\nrefused\t10\t2\n"),
+    (b"0\t1\t16\nx\ty\n", b"1\t00010010\t1/16\t6.2\nrefused\t10\t2\n"),
     (b"5\t5\t6\n", b"1\t00000001\t0/1\t0.0\nall\t00000001\t0/1\t0.0\n"),
     (b"5\t6\t6\n", b"1\t00010001\t1/1\t100.0\nall\t00010001\t1/1\t100.0\n"),
     (b"5\t7\t6\n", b"1\t00000000\t-\t-\nall\t00000000\t-\t-\n"),
     # 1/32768 is 0/1 and marked: bit 15.
     (b"0\t1\t32768\n", b"1\t00008001\t0/1\t0.0\nall\t00008001\t0/1\t0.0\n"),
+    # 1/16 is 6.25 percent and prints 6.2; 3/16 is 18.75 and stays 18.8.
+    (b"0\t1\t16\n", b"1\t00010010\t1/16\t6.2\nall\t00010010\t1/16\t6.2\n"),
+    (b"0\t3\t16\n", b"1\t00030010\t3/16\t18.8\nall\t00030010\t3/16\t18.8\n"),
 ]
 
 
@@ -154,6 +160,7 @@ def check_all():
     check_quotients()
     check_vectors()
     check_night()
+    check_ties()
 
 
 def check_answers():
@@ -426,3 +433,53 @@ def check_night():
     assert most.count(b"\n") == 65537 and most.endswith(b"all\t00010002\t1/2\t50.0\n")
     beyond = night.listing(b"0\t1\t2\n" * 65536 + b"x")
     assert beyond.count(b"\n") == 65537 and beyond.endswith(b"\nrefused\t8\t65537\n")
+
+
+def check_ties():
+    """Asserts which ratios are ties, and that each goes to the even tenth.
+
+    What is next below a tie goes to the tenth below it, what is next above to the
+    one above.
+    """
+    assert sorted(ties()) == sorted(ties_by_denominators())
+    # Each odd number of half tenths once, 1000 in all.
+    halves = range(1, 2000, 2)
+    assert [Fraction(n, d) * 2000 for n, d in ties()] == list(halves)
+    for half, tie in zip(halves, ties()):
+        down, up = half // 2, half // 2 + 1
+        assert printed_tenths(*tie) == (up if down % 2 else down), tie
+        below, above = next_to(*tie)
+        assert printed_tenths(*below) == down and printed_tenths(*above) == up, tie
+        check_next(below, tie)
+        check_next(tie, above)
+
+
+def ties_by_denominators():
+    """The held ratios in lowest terms that are ties, found by their denominators.
+
+    1000n/d is a whole number and a half where 2000n is an odd multiple of d. In
+    lowest terms d then divides 2000, so that few denominators are left to try.
+    """
+    held = range(1, slash.largest_denominator(night.STORED) + 1)
+    for d in (d for d in held if 2000 % d == 0):
+        lowest = (n for n in range(d + 1) if gcd(n, d) == 1)
+        yield from ((n, d) for n in lowest if 2000 * n // d % 2 == 1)
+
+
+def printed_tenths(n, d):
+    """The tenths of a percent that are printed for n/d."""
+    whole, tenths = night.percentage(n, d).split(".")
+    assert len(tenths) == 1, (n, d)
+    return 10 * int(whole) + int(tenths)
+
+
+def check_next(lower, upper):
+    """Asserts that two ratios are held and up to 1, and no held one lies between them.
+
+    As the products across differ by 1, the denominator of what lies between is at
+    least the sum of theirs.
+    """
+    (p, q), (r, s) = lower, upper
+    largest = slash.largest_denominator(night.STORED)
+    assert q * r - p * s == 1 and q + s > largest, (lower, upper)
+    assert p <= q <= largest and r <= s <= largest, (lower, upper)

@@ -1,5 +1,6 @@
-"""The listing of a night's recording, from documents 00 and 01 alone."""
+"""The listing of a night's recording, from documents 00 and 01 and CR 1 of 02 alone."""
 
+from fractions import Fraction
 from functools import lru_cache
 
 import slash
@@ -112,8 +113,11 @@ def columns(inward, whole):
 
 
 def percentage(numerator, denominator):
-    """1000 times the fraction to the nearest whole, half up, as tenths of a percent."""
-    tenths = (2000 * numerator + denominator) // (2 * denominator)
+    """1000 times the fraction to the nearest whole, half to even, as tenths of a percent.
+
+    Python's own round does just that with an exact fraction.
+    """
+    tenths = round(Fraction(1000 * numerator, denominator))
     return "%d.%d" % divmod(tenths, 10)
 
 

@@ -88,10 +88,17 @@ impl Listing<'_> {
         self.byte(b'/');
         self.decimal(d);
         self.byte(b'\t');
-        let tenths = (2000 * n + d) / (2 * d);
+        let tenths = thousandths(n, d);
         self.decimal(tenths / 10);
         self.text(&[b'.', digit(tenths % 10), b'\n']);
     }
+}
+
+/// The nearest whole number to 1000 n/d, at a tie the even one: up past a half, and at a half from an odd one.
+#[inline]
+fn thousandths(n: u32, d: u32) -> u32 {
+    let (below, rest) = (1000 * n / d, 1000 * n % d);
+    below + u32::from(d < 2 * rest + below % 2)
 }
 
 #[inline]

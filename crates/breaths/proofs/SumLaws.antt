@@ -1,6 +1,6 @@
 -- The sums of breaths. Assumes nothing.
 -- `add-breath`: a breath added to the sums before is a breath in front of the list, so that breath by breath the sums are those of the list. `none-good`, `good-none`: the sum of whole is 0 just where no breath is left.
--- `sum-proper`: one breath more keeps the sum of in at most that of whole.
+-- `sum-proper`: one breath more keeps the sum of in at most that of whole; `sums-proper`: so it is of every list of breaths.
 use mathlib.Core.Path.{_≡_, refl, sym, ap, _∙_, subst}
 use mathlib.Core.Bool.{Bool, true, false, _&&_, and-true, and-false}
 use mathlib.Core.List.{List, [], _∷_}
@@ -98,6 +98,17 @@ module _ (b : Breath) (bs : List Breath) where
       go : (t : Bool) → isVoid b ≡ t → addSums (withBreath s b) (sumsOf bs) ≡ addSums s (sumsOf (b ∷ bs))
       go true h = rw (sym (sum-void s b h), good-void h) refl
       go false h = rw (sym (sum-good s b h), good-good h, add-assoc (s .inspiration) (b .inspiration) (total (λ x. x .inspiration) (notVoid bs)), add-assoc (s .whole) (b .whole) (total (λ x. x .whole) (notVoid bs))) refl
+
+pub sums-proper : (bs : List Breath) → Proper (sumsOf bs)
+unfolding sumsOf notVoid total
+sums-proper [] = omega arith
+sums-proper (b ∷ bs) = go (isVoid b) refl (sums-proper bs)
+  where
+    go : (t : Bool) → isVoid b ≡ t → Proper (sumsOf bs) → Proper (sumsOf (b ∷ bs))
+    go true h ih = subst (λ (l : List Breath). total (λ x. x .inspiration) l ≤ total (λ x. x .whole) l) (sym (good-void b bs h)) ih
+    go false h ih =
+        let more : b .inspiration + total (λ x. x .inspiration) (notVoid bs) ≤ b .whole + total (λ x. x .whole) (notVoid bs) = omega (arith, good-breath b h .1, ih) in
+        subst (λ (l : List Breath). total (λ x. x .inspiration) l ≤ total (λ x. x .whole) l) (sym (good-good b bs h)) more
 
 -- A night is void just where every breath of it is: none is left.
 pub none-good : (bs : List Breath) → noneLeft (sumsOf bs) ≡ true → notVoid bs ≡ []

@@ -1,6 +1,7 @@
 -- A listing line by line and by its breaths. Assumes nothing.
 -- `listing-breaths`: it is the numbered lines of the recording's breaths, and then `all` of their sums, or `refused`. `best-night`: demand 3, of a
--- night. `listing-length`: it has at most 65,536 × 33 + 31 bytes. `listing-steps`: more steps than there can be lines change nothing.
+-- night. `breath-nearest`, `all-nearest`: its percentages are of the whole numbers nearest to 1000 times the words' fractions, at a tie the even
+-- ones. `listing-length`: it has at most 65,536 × 33 + 31 bytes. `listing-steps`: more steps than there can be lines change nothing.
 use mathlib.Core.Path.{_≡_, refl, sym, ap, _∙_, subst}
 use mathlib.Core.List.{List, [], _∷_, _++_, append-assoc}
 use Prim.Native.Nat.{ℕ, zero, suc, _+_, _*_, _^_, _≤_, _<_}
@@ -13,11 +14,12 @@ use Rattle.breaths.specs.Sums.{nightRatio, addSums, sumsOf}
 use Rattle.breaths.specs.Steps.{Proper}
 use Rattle.breaths.specs.declared.breath.Breath.{Breath}
 use Rattle.breaths.specs.declared.sums.Sums.{Sums}
+use Rattle.breaths.specs.declared.ratio.Ratio.the-variants.{Word}
 use Rattle.breaths.proofs.RatioLaws.{breath-proportion, night-proportion, breaths-best, night-best}
-use Rattle.breaths.proofs.SumLaws.{add-none, none-add, add-breath}
-use Rattle.text.specs.Lines.{lineOf, refusedLine}
+use Rattle.breaths.proofs.SumLaws.{add-none, none-add, add-breath, sums-proper}
+use Rattle.text.specs.Lines.{lineOf, refusedLine, isPrintable}
 use Rattle.text.specs.declared.line.Name.the-variants.{Number, All}
-use Rattle.text.proofs.LineLaws.{number-length, all-length, refused-length}
+use Rattle.text.proofs.LineLaws.{NearestPrinted, printed-nearest, printable-is, number-length, all-length, refused-length}
 use Rattle.recording.specs.Reading.{Coming, aBreath, theEnd, nextOf, breathsFrom, checkFrom, breathsOn, breathsIn, recordingCheck}
 use Rattle.recording.specs.declared.line.Entry.{Entry}
 use Rattle.recording.proofs.ReadingLaws.{follows-breath, follows-stop, breaths-more, breaths-end, breaths-stop, check-more, check-end, check-stop}
@@ -82,6 +84,16 @@ listing-steps (suc steps) more night bs r e =
         ∙ sym (listing-more steps night bs entry n)
     go (done theEnd) n ih = listing-end (steps + more) night bs n ∙ sym (listing-end steps night bs n)
     go (stop number place) n ih = listing-stop (steps + more) night bs n ∙ sym (listing-stop steps night bs n)
+
+-- ---- its percentages
+
+-- Of every breath that isn't void, and of every night, the percentage is of the whole number nearest to 1000 times the word's fraction, at a tie
+-- the even one.
+pub breath-nearest : (b : Breath) (w : ℕ) → breathRatio b ≡ Word w → NearestPrinted w
+breath-nearest b w e = printed-nearest w (ap isPrintable (sym e) ∙ printable-is (breathRatio b) (breath-proportion b))
+
+pub all-nearest : (bs : List Breath) (w : ℕ) → nightRatio (sumsOf bs) ≡ Word w → NearestPrinted w
+all-nearest bs w e = printed-nearest w (ap isPrintable (sym e) ∙ printable-is (nightRatio (sumsOf bs)) (night-proportion (sumsOf bs) (sums-proper bs)))
 
 -- ---- how long it is
 

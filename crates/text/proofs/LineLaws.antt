@@ -1,6 +1,7 @@
 -- The lines of a listing. Assumes nothing.
--- `most-bytes`: no line that a listing has is of more than 33 bytes. `refused-most`: the line of a stop has at most 50, for any 64-bit numbers. `line-stored`, `line-no-room`,
--- `line-no-name`, `line-not-printable`: what `put_line` stores, and where it stores nothing.
+-- `printed-nearest`: the percentage of every word that a line shows is of the whole number nearest to 1000 times its fraction, at a tie the even
+-- one. `most-bytes`: no line that a listing has is of more than 33 bytes. `refused-most`: the line of a stop has at most 50, for any 64-bit numbers.
+-- `line-stored`, `line-no-room`, `line-no-name`, `line-not-printable`: what `put_line` stores, and where it stores nothing.
 use mathlib.Core.Path.{_≡_, refl, sym, ap, _∙_, subst}
 use mathlib.Core.Bool.{true, false, _&&_, and-eq-true-iff, and-false}
 use mathlib.Core.List.{List, [], _∷_, _++_}
@@ -9,19 +10,20 @@ use native.Mathlib.Omega.{arith}
 use lib.Dec.{leb, ltb}
 use lib.ListN.{length, drop, length-append}
 use borrow.Author.Tests.{leb-true, ltb-true, le-leb, lt-leb, lt-ltb}
+use Rattle.convergents.specs.Pairs.{Pair}
 use Rattle.breaths.specs.Ratios.{fractionOf}
 use Rattle.breaths.specs.Steps.{Proportion, PrintableRatio}
 use Rattle.breaths.specs.declared.ratio.Ratio.{Ratio}
 use Rattle.breaths.specs.declared.ratio.Ratio.the-variants.{Void, Word}
 use Rattle.text.specs.Numbers.{tab, lineFeed, decimal}
-use Rattle.text.specs.Columns.{columns}
+use Rattle.text.specs.Columns.{thousandths, percentage, fractionText, fractionAndPercentage, columns}
 use Rattle.text.specs.Lines.{nameText, lineOf, refusedLine, isName, isPrintable, lineIn}
 use Rattle.text.specs.Steps.{Room}
 use Rattle.text.specs.Stores.{Stored, atStart}
 use Rattle.text.specs.declared.line.Name.{Name}
 use Rattle.text.specs.declared.line.Name.the-variants.{Number, All}
 use Rattle.text.proofs.NumberLaws.{put-front, store-none, stored-as, room-first, decimal-length}
-use Rattle.text.proofs.ColumnLaws.{columns-length}
+use Rattle.text.proofs.ColumnLaws.{NearestEven, nearest-even, word-shares, columns-length}
 
 -- ---- names
 
@@ -71,6 +73,19 @@ word-proportion w e =
 pub is-printable : (r : Ratio) → isPrintable r ≡ true → PrintableRatio r
 is-printable Void e = tt
 is-printable (Word w) e = word-proportion w e
+
+-- What stands behind a word: its fraction, and as a percentage the whole number t that is nearest to 1000 times that fraction, at a tie the even one.
+pub record NearestPrinted (w : ℕ) : Type 0 where
+  pub t : ℕ
+  pub text : fractionAndPercentage (Word w) ≡ fractionText (fractionOf w) ++ tab ++ percentage t
+  pub nearest : NearestEven (fractionOf w .numerator) (fractionOf w .denominator) t
+
+-- It is so of every word that a line shows.
+pub printed-nearest : (w : ℕ) → isPrintable (Word w) ≡ true → NearestPrinted w
+printed-nearest w e =
+    let x : Pair = fractionOf w in
+    let t : ℕ = thousandths (x .numerator) (x .denominator) in
+    record { t = t; text = sym (word-shares w _ _ refl t refl); nearest = nearest-even _ _ (word-proportion w e .some) }
 
 -- ---- lines
 

@@ -1,15 +1,26 @@
 -- The columns of a printed line: word, fraction, percentage.
 use Prim.Native.Nat.{ℕ, _+_, _*_, _/_, _%_}
 use mathlib.Core.List.{List, _++_}
-use Rattle.convergents.specs.Pairs.{Pair}
+use lib.Dec.{ltb, eqb}
+use Rattle.convergents.specs.Choice.{if_then_else_}
+use Rattle.convergents.specs.Pairs.{Pair, apart}
 use Rattle.text.specs.Numbers.{tab, slash, point, hyphen, decimal, hexadecimal}
 use Rattle.breaths.specs.Ratios.{wordOf, fractionOf}
 use Rattle.breaths.specs.declared.ratio.Ratio.{Ratio}
 use Rattle.breaths.specs.declared.ratio.Ratio.the-variants.{Void, Word}
 
--- 1000 times n/d to the nearest whole, half up.
+-- How far a whole number t is from 1000 n/d, times d.
+abbrev pub distance : (n d t : ℕ) → ℕ
+distance n d t = apart (1000 * n) (t * d)
+
+-- The nearest whole number to 1000 n/d, and at a tie the even one. (1000 n/d is its whole part, `below`, or lies between that and `above`.)
 unfoldable pub thousandths : (n d : ℕ) → ℕ
-thousandths n d = (2000 * n + d) / (2 * d)
+thousandths n d =
+    let below : ℕ = 1000 * n / d in
+    let above : ℕ = below + 1 in
+    if ltb (distance n d below) (distance n d above) then below else
+    if ltb (distance n d above) (distance n d below) then above else
+    if eqb (below % 2) 0 then below else above
 
 -- Thousandths as a percentage with one digit after the point.
 unfoldable pub percentage : ℕ → List ℕ

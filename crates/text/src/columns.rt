@@ -73,12 +73,16 @@ fn put_fraction(out: &mut [u8], at: usize, n: u32, d: u32) -> usize
     put_decimal(out, denominator, d)
 }
 
-// 1000 times n/d to the nearest whole, half up.
+// The nearest whole number to 1000 n/d, and at a tie the even one.
 fn in_thousandths(n: u32, d: u32) -> u32
     requires { ⌜ (n < 100000) × (d < 100000) × (1 ≤ d) ⌝ }
     ensures { λ r. ⌜ r ≡ thousandths n d ⌝ }
 {
-    (2000 * n + d) / (2 * d)
+    let below = 1000 * n / d;
+    let twice = 2 * (1000 * n % d);
+    let odd = below % 2;
+    // Past the half, where `twice` is above d, up; at the half, where it is d, up from an odd number alone.
+    if d < twice + odd { below + 1 } else { below }
 }
 
 fn put_percentage(out: &mut [u8], at: usize, t: u32) -> usize

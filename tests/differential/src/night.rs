@@ -1,6 +1,7 @@
-//! The listing of a night's recording, from documents 00 and 01 alone.
+//! The listing of a night's recording, from documents 00 and 01 and CR 1 of 02 alone.
 
 use crate::paper::{self, Answer, Stop};
+use std::cmp::Ordering;
 
 const MOST_LINES: usize = 65536;
 const MOST_BYTES: usize = 32;
@@ -98,10 +99,20 @@ fn row(name: &str, inward: u64, whole: u64) -> String {
     else {
         unreachable!("a ratio of at most 1 is finite")
     };
-    let tenths = 1000 * n / d + u128::from(2 * (1000 * n % d) >= d);
+    let tenths = tenths(n, d);
     format!(
         "{name}\t{word:08x}\t{n}/{d}\t{}.{}\n",
         tenths / 10,
         tenths % 10
     )
+}
+
+/// 1000 times the fraction n/d to the nearest whole, of two that are as near the even one.
+fn tenths(n: u128, d: u128) -> u128 {
+    let (below, rest) = (1000 * n / d, 1000 * n % d);
+    match (2 * rest).cmp(&d) {
+        Ordering::Less => below,
+        Ordering::Equal => below + below % 2,
+        Ordering::Greater => below + 1,
+    }
 }

@@ -276,18 +276,32 @@ impl Source {
                 let whole = self.part();
                 (self.below(whole | 1), whole)
             }
-            2 => {
-                // At a half of a tenth of a percent, or next to it.
-                let times = 1 + self.below(2_000_000);
-                let off = self.below(3);
-                (times * self.below(2001) + off, times * 2000 + 1)
-            }
+            2 => self.about_halfway(),
             _ => {
                 let whole = 200 + self.below(600);
                 (whole * (30 + self.below(20)) / 100, whole)
             }
         };
         (inward as u32, whole as u32)
+    }
+
+    /// Ticks whose percentage is halfway between two tenths; or one tick off, so that the ratio is held as it
+    /// is or rounds to one halfway; or, of a whole breath of at most 15 bits, the ticks next to halfway.
+    fn about_halfway(&mut self) -> (u64, u64) {
+        let denominator = self.one_of(&[16, 80, 400, 2000]);
+        let numerator = 1 + 2 * self.below(denominator / 2);
+        let any = self.below(22);
+        let count = self.one_of(&[any, 21]);
+        let times = self.of_bits(count).max(1);
+        let (inward, whole) = (times * numerator, times * denominator);
+        match self.below(4) {
+            0 => (inward, whole),
+            1 | 2 => (inward - 1 + 2 * self.below(2), whole),
+            _ => {
+                let held = 1 + self.below(32767);
+                (held * numerator / denominator + self.below(2), held)
+            }
+        }
     }
 
     /// Changes, takes out or puts in a byte, cuts the recording off, or puts a strange field in.

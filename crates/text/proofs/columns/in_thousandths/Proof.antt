@@ -1,25 +1,41 @@
 -- `text::columns::in_thousandths` meets its contract. Assumes nothing.
-use Rattle.text.specs.Columns.{thousandths}
+use Rattle.text.proofs.ColumnLaws.{thousandths-up, thousandths-down}
 use mathlib.Core.Path.{refl}
+use Prim.Native.Nat.{_*_}
+use native.Mathlib.Omega.{arith}
+use native.Mathlib.Nat.{mod-lt, div-le-self}
 use borrow.Author.Needs.{needs}
 use Rattle.text.proofs.columns.in_thousandths.Statement.{statement}
 use Rattle.text.proofs.columns.in_thousandths.Tie as tie
 
-mul-result : tie.Need-mul-result
-mul-result c = search needs
+mul-below : tie.Need-mul-below
+mul-below c = search needs
+
+div-below : tie.Need-div-below
+div-below c = search needs
+
+mul-twice : tie.Need-mul-twice
+mul-twice c = search needs
+
+rem-twice : tie.Need-rem-twice
+rem-twice c = search needs
+
+mul-twice-2 : tie.Need-mul-twice-2
+mul-twice-2 c = omega (arith, mod-lt (1000 * c .args .n) (c .pre .2), c .pre .1)
+
+add-if1 : tie.Need-add-if1
+add-if1 c = omega (arith, mod-lt (1000 * c .args .n) (c .pre .2), c .pre .1)
 
 add-result : tie.Need-add-result
-add-result c = search needs
-
-mul-result-2 : tie.Need-mul-result-2
-mul-result-2 c = search needs
-
-div-result : tie.Need-div-result
-div-result c = search needs
+add-result c = omega (arith, div-le-self (1000 * c .before .args .n) (c .before .args .d), c .before .pre .0)
 
 returns : tie.Need-returns
-unfolding thousandths
-returns c = refl
+returns c = thousandths-up (c .before .args .n) (c .before .args .d) (c .before .pre .2) _ _ refl refl (omega (arith, c .if1 .taken))
+
+returns-2 : tie.Need-returns-2
+returns-2 c = thousandths-down (c .before .args .n) (c .before .args .d) (c .before .pre .2) _ _ refl refl (omega (arith, c .if1 .left))
 
 pub in-thousandths-spec : {M : Type 1} → statement M
-in-thousandths-spec = tie.close (tie.spec mul-result add-result mul-result-2 div-result returns)
+in-thousandths-spec =
+    tie.close
+    (tie.spec mul-below div-below mul-twice rem-twice mul-twice-2 add-if1 add-result returns returns-2)
