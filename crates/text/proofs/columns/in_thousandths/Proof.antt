@@ -30,10 +30,15 @@ add-result : tie.Need-add-result
 add-result c = omega (arith, div-le-self (1000 * c .before .args .n) (c .before .args .d), c .before .pre .0)
 
 returns : tie.Need-returns
-returns c = thousandths-up (c .before .args .n) (c .before .args .d) (c .before .pre .2) _ _ refl refl (omega (arith, c .if1 .taken))
+-- (That the rest is below d isn't needed here: it keeps the numbers at which a wrong program is refused to a divisor and a rest of it.)
+returns c =
+    let rest = mod-lt (1000 * c .before .args .n) (c .before .pre .2) in
+    thousandths-up (c .before .args .n) (c .before .args .d) (c .before .pre .2) _ _ refl refl (omega (arith, rest, c .if1 .taken))
 
 returns-2 : tie.Need-returns-2
-returns-2 c = thousandths-down (c .before .args .n) (c .before .args .d) (c .before .pre .2) _ _ refl refl (omega (arith, c .if1 .left))
+returns-2 c =
+    let rest = mod-lt (1000 * c .before .args .n) (c .before .pre .2) in
+    thousandths-down (c .before .args .n) (c .before .args .d) (c .before .pre .2) _ _ refl refl (omega (arith, rest, c .if1 .left))
 
 pub in-thousandths-spec : {M : Type 1} → statement M
 in-thousandths-spec =
