@@ -14,10 +14,10 @@
  *
  *   Each function returns 0 where nothing stopped. Otherwise it returns the place times 256 plus the
  *   stop's number (SLASH_STOP_NUMBER, SLASH_STOP_PLACE), and changes nothing behind any pointer. The
- *   place is an index from 0 in the vector functions' stops 4 and 5, a line from 1 in slash_night's,
- *   else 0. Where several stops would apply, the checks run in the order of the numbers; of words, the
- *   lowest place comes first, then the left operand, and within one word 4 before 5; of a recording,
- *   the first bad line.
+ *   place is an index from 0 in the vector functions' stops 4 and 5, a line from 1 in slash_night's and
+ *   in slash_load's 13 to 15, else 0. Where several stops would apply, the checks run in the order of the
+ *   numbers, but slash_load's 7 comes last; of words, the lowest place comes first, then the left
+ *   operand, and within one word 4 before 5; of a recording or a listing, the first bad line.
  *
  * What the caller owes
  *
@@ -68,12 +68,15 @@ extern "C" {
 #define SLASH_BITS_ABOVE_WIDTH 4         /* word with bits above its width */
 #define SLASH_UNDEFINED_SLASH_POSITION 5 /* floating word whose e lies between k - 1 and 2^L - 2 */
 #define SLASH_DENOMINATOR_ZERO 6         /* denominator 0 given to rounding */
-#define SLASH_LIST_TOO_SHORT 7           /* quotient list shorter than the quotients */
+#define SLASH_LIST_TOO_SHORT 7           /* list shorter than the quotients or the breaths */
 #define SLASH_TOO_MANY_LINES 8           /* line 65,537 begins */
 #define SLASH_BAD_LINE_END 9             /* over 32 bytes before the line feed, or no line feed */
 #define SLASH_NOT_THREE_FIELDS 10        /* line with other than two tabs */
 #define SLASH_BAD_TICK_MARK 11           /* field that isn't a number as slash_night takes them */
 #define SLASH_NO_LINE 12                 /* recording of no byte; its place is line 1 */
+#define SLASH_BAD_LISTED_LINE 13         /* line without the shape of a listed one */
+#define SLASH_OUT_OF_SEQUENCE 14         /* number out of sequence; `all` first, missing or not last */
+#define SLASH_BAD_LISTED_WORD 15         /* word that no listing has, or columns of another */
 
 /* A returned number that isn't 0, taken apart. */
 #define SLASH_STOP_NUMBER(returned) ((returned) % 256)
@@ -81,6 +84,9 @@ extern "C" {
 
 /* The bytes that slash_night is lent: no listing has more. */
 #define SLASH_LISTING_BYTES 2162719
+
+/* The most breaths of a listing: lists of so many places are never too short for slash_load. */
+#define SLASH_MOST_BREATHS 65536
 
 /* Stores the word, of sign 0, of n/d rounded into the format: the last convergent that it holds,
  * marked if its value isn't n/d. Every other held pair r/s has a larger miss (the size of s * n - r * d),
@@ -145,6 +151,25 @@ uint64_t slash_convert_each(uint64_t kind, uint64_t k, uint64_t to_kind, uint64_
  * as they were; the lines before that line are good, and can be listed by a call of their own. */
 uint64_t slash_night(const uint8_t *recording, size_t recording_length, uint8_t *listing,
                      uint64_t *length);
+
+/* Reads a printed listing back: stores the breaths' numbers, from 1, and their words at the start of the
+ * two lists, leaves the rest of each as it was, and stores the count of breaths and the total's word. The
+ * listing has from 1 to 65,536 lines of breaths, then the line `all`, and each line reads as slash_night
+ * lists it: the breath's number or `all`; the word, 0 where it is void, else canonical in fixed k = 15,
+ * of sign 0 and from 0 to 1, marked or not; the word's fraction and percentage, or two hyphens where it
+ * is void. Whether the total follows from the breaths isn't judged. Stops, with the line as place:
+ *
+ *   13   a line of another shape than: a whole number or `all`; eight lowercase hexadecimal digits; two
+ *        hyphens, or a fraction and a decimal number of one place. Whole numbers may have any length, but
+ *        no leading zeros; tabs and line feed are as listed
+ *   14   a number out of sequence or above 65,536, `all` as the first line, a line after `all`, or no
+ *        `all`: that at the line after the last
+ *   15   a word that is none of those, or a fraction or percentage that isn't the word's
+ *
+ * and last 7, for a list shorter than the breaths. The listing is read through before anything is stored. */
+uint64_t slash_load(const uint8_t *text, size_t text_length, uint64_t *numbers,
+                    size_t numbers_length, uint64_t *words, size_t words_length, uint64_t *count,
+                    uint64_t *total);
 
 #ifdef __cplusplus
 }

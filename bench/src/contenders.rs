@@ -158,6 +158,49 @@ pub fn listed(night: Night, recording: &[u8], listing: &mut [u8]) -> (u64, usize
     (status, length as usize)
 }
 
+/// A function that reads a listing back through the C interface.
+pub type Load = unsafe extern "C" fn(
+    *const u8,
+    usize,
+    *mut u64,
+    usize,
+    *mut u64,
+    usize,
+    *mut u64,
+    *mut u64,
+) -> u64;
+
+/// The archive's, then the hand-written one.
+pub const LOADS: [Load; 2] = [slash::raw::slash_load, hand_calls::slash_load];
+
+/// What a listing is read back into: lists of breath numbers and words, the count, the total's word.
+#[derive(Debug, PartialEq)]
+pub struct Lent {
+    pub numbers: Vec<u64>,
+    pub words: Vec<u64>,
+    pub count: u64,
+    pub total: u64,
+}
+
+/// What the function returns for a listing.
+pub fn loaded(load: Load, listing: &[u8], lent: &mut Lent) -> u64 {
+    let (start, length) = (listing.as_ptr(), listing.len());
+    let (numbers, words) = (&mut lent.numbers, &mut lent.words);
+    // SAFETY: the pointers are those of live bytes and lists, with their lengths, and of live numbers.
+    unsafe {
+        load(
+            start,
+            length,
+            numbers.as_mut_ptr(),
+            numbers.len(),
+            words.as_mut_ptr(),
+            words.len(),
+            &mut lent.count,
+            &mut lent.total,
+        )
+    }
+}
+
 /// Makes GMP's numbers, once.
 pub fn start_gmp() {
     // SAFETY: called once, from one thread.

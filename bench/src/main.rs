@@ -6,6 +6,7 @@
 
 mod contenders;
 mod inputs;
+mod loading;
 
 use contenders::{folded, listed, Operation, Row, NIGHTS};
 use inputs::Source;
@@ -49,6 +50,7 @@ fn main() {
         "{}",
         table_of_nights(&recording, &room, Path::new(folder), night)
     );
+    print!("{}", loading::section(&recording));
     fs::remove_dir_all(&room).expect("the temporary folder");
 }
 
@@ -346,7 +348,7 @@ fn whole_processes(input: &Path, refused: &Path, script: &Path, night: &str) -> 
         )
         .expect("a row");
     }
-    table
+    table + "\n"
 }
 
 fn assert_printed_alike(processes: &[Process], input: &Path) {

@@ -56,23 +56,33 @@ def longer_than_any():
 
 def recipes():
     """The lines of the test program's input: a comment and a recipe for each case."""
-    for name, pieces in all_cases():
-        yield comment(name)
-        yield recipe(pieces)
+    return asked(GROUPS, recipe)
 
 
 def answers():
     """What the test program prints, as bytes, for each of those lines."""
-    for name, pieces in all_cases():
+    return answered(GROUPS, lambda pieces: shown(night.listing(recording(pieces))))
+
+
+def asked(groups, request):
+    """A comment and a request for each case of the groups, as lines of text."""
+    for name, case in named_cases(groups):
+        yield comment(name)
+        yield request(case)
+
+
+def answered(groups, answer):
+    """What is printed, as bytes, for each of those lines; an empty line ends each answer."""
+    for name, case in named_cases(groups):
         yield comment(name).encode("ascii") + b"\n"
-        yield shown(night.listing(recording(pieces))) + b"\n"
+        yield answer(case) + b"\n"
 
 
-def all_cases():
-    """Every case in order: its name and its pieces, each a count and bytes."""
-    for group in GROUPS:
+def named_cases(groups):
+    """Each case of the groups in order, with its name."""
+    for group in groups:
+        words = group.__name__.replace("_", " ")
         for number, case in enumerate(group(), 1):
-            words = group.__name__.replace("_", " ")
             yield "%s %d" % (words, number), case
 
 
@@ -82,7 +92,7 @@ def comment(name):
 
 
 def recipe(pieces):
-    """The line that tells how a recording is made."""
+    """The line that tells how a recording is made, of pieces that are each a count and bytes."""
     line = " ".join("%d*%s" % (count, text.hex()) for count, text in pieces)
     assert len(line) <= LONGEST_RECIPE
     return line
@@ -522,6 +532,13 @@ def random_breath(rng):
         return line(*(rng.getrandbits(1 + rng.getrandbits(5)) for _ in range(3)))
     whole = 1 + rng.getrandbits(1 + rng.getrandbits(4) * 2)
     return breath(rng.getrandbits(32) % (whole + 1), whole, rng.getrandbits(32))
+
+
+def varied_night():
+    """A recording of as many breaths as there can be, drawn from some of all these sorts."""
+    rng = random.Random(83)
+    breaths = [random_breath(rng) for _ in range(4000)]
+    return b"".join(chosen(rng, breaths) for _ in range(night.MOST_LINES))
 
 
 def random_recordings():

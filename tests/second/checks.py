@@ -13,6 +13,7 @@ import vectors
 from answers import LENT, answer
 from cases_common import chosen, small_formats
 from cases_night import EXAMPLE, EXAMPLE_LISTING, next_to, ties
+from checks_listings import check_listings
 from checks_source import check_source
 from slash import FIXED, FRACTION, ZERO
 
@@ -161,6 +162,7 @@ def check_all():
     check_vectors()
     check_night()
     check_ties()
+    check_listings()
 
 
 def check_answers():

@@ -38,7 +38,7 @@ def listing(recording):
             breaths.append(breath)
         listed.append(tabbed("all", columns(*sums(breaths))))
     except Stop as stop:
-        listed.append(tabbed("refused", (stop.number, stop.place)))
+        listed.append(refusal(stop))
     return "".join(listed).encode("ascii")
 
 
@@ -107,7 +107,11 @@ def columns(inward, whole):
     """The stored word, its fraction and its percentage, or those of a void breath."""
     if is_void(inward, whole):
         return VOID_COLUMNS
-    pair, mark = slash.rounded(STORED, inward, whole)
+    return pair_columns(*slash.rounded(STORED, inward, whole))
+
+
+def pair_columns(pair, mark):
+    """The word of a pair in lowest terms with this mark, its fraction and its percentage."""
     word = slash.pair_word(STORED, 0, pair, mark)
     return "%08x" % word, "%d/%d" % pair, percentage(*pair)
 
@@ -117,8 +121,17 @@ def percentage(numerator, denominator):
 
     Python's own round does just that with an exact fraction.
     """
-    tenths = round(Fraction(1000 * numerator, denominator))
+    return percent(round(Fraction(1000 * numerator, denominator)))
+
+
+def percent(tenths):
+    """So many tenths of a percent, with one digit after the point."""
     return "%d.%d" % divmod(tenths, 10)
+
+
+def refusal(stop):
+    """The line that tells a stop."""
+    return tabbed("refused", (stop.number, stop.place))
 
 
 def tabbed(name, texts):

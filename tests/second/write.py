@@ -2,16 +2,20 @@
 
 import os
 import sys
+from itertools import chain
 
 import answers
 import cases_binary
 import cases_files
+import cases_load
 import cases_night
+import cases_print
 import cases_source
 import cases_unary
 import cases_vectors
 import cases_words
 import checks
+import listings
 import night
 
 # The modules whose requests are written, one after the other.
@@ -32,8 +36,13 @@ def outputs():
     longest = cases_night.longer_than_any()
     yield "night", "stdin", [longest]
     yield "night", "stdout", [night.listing(longest)]
-    yield "night_cases", "stdin", as_lines(cases_night.recipes())
-    yield "night_cases", "stdout", cases_night.answers()
+    asked = cases_night.recipes(), cases_load.requests(), cases_print.requests()
+    yield "night_cases", "stdin", as_lines(chain(*asked))
+    printed = cases_night.answers(), cases_load.answers(), cases_print.answers()
+    yield "night_cases", "stdout", chain(*printed)
+    listing = night.listing(cases_night.varied_night())
+    yield "relist", "stdin", [listing]
+    yield "relist", "stdout", [listings.relisting(listing)]
     for name, parts in cases_files.outputs():
         yield "night_files", name, parts
 

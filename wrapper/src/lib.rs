@@ -27,8 +27,8 @@ impl Format {
     }
 }
 
-/// A refused call: the stop's number, from 1 to 12, and its place: the index in a vector, the line of a
-/// recording, else 0.
+/// A refused call: the stop's number, from 1 to 15, and its place: the index in a vector, the line of a
+/// recording or a listing, else 0.
 #[derive(Clone, Copy, Debug, PartialEq, Eq)]
 pub struct Stop {
     pub number: u8,
@@ -56,12 +56,15 @@ impl fmt::Display for Stop {
             4 => "word with bits above its width",
             5 => "undefined slash position",
             6 => "denominator 0 given to rounding",
-            7 => "quotient list shorter than the quotients",
+            7 => "list shorter than the quotients or the breaths",
             8 => "line 65,537 begins",
             9 => "over 32 bytes before the line feed, or no line feed",
             10 => "not three fields",
             11 => "a field is not a tick mark",
             12 => "no line at all",
+            13 => "a line without the shape of a listed one",
+            14 => "a number out of sequence, or `all` first, missing or not last",
+            15 => "a word that no listing has, or columns of another",
             _ => "unknown stop",
         };
         write!(f, "stop {} at {}: {meaning}", self.number, self.place)
@@ -225,4 +228,34 @@ pub fn night(recording: &[u8]) -> Result<Vec<u8>, Stop> {
         stored(|length| unsafe { raw::slash_night(start, count, listing.as_mut_ptr(), length) })?;
     listing.truncate(length as usize);
     Ok(listing)
+}
+
+/// What a listing says: the words of its breaths, the first one first, and the total's word. A void one is 0.
+#[derive(Clone, Debug, PartialEq, Eq)]
+pub struct Loaded {
+    pub words: Vec<u64>,
+    pub total: u64,
+}
+
+/// Reads a printed listing back; stops 13, 14 and 15 with the line, which is the first bad one, from 1.
+///
+/// Breath i + 1 has the word at index i. Whether the total follows from the breaths isn't judged.
+pub fn load(listing: &[u8]) -> Result<Loaded, Stop> {
+    // As long as any listing asks for, so that 7 never occurs.
+    let (mut numbers, mut words) = (vec![0; raw::MOST_BREATHS], vec![0; raw::MOST_BREATHS]);
+    let mut count = 0;
+    let total = stored(|total| unsafe {
+        raw::slash_load(
+            listing.as_ptr(),
+            listing.len(),
+            numbers.as_mut_ptr(),
+            numbers.len(),
+            words.as_mut_ptr(),
+            words.len(),
+            &mut count,
+            total,
+        )
+    })?;
+    words.truncate(count as usize);
+    Ok(Loaded { words, total })
 }

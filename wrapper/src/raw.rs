@@ -11,6 +11,9 @@
 /// The bytes that are lent for a listing: none has more.
 pub const LISTING_BYTES: usize = 2_162_719;
 
+/// The most breaths of a listing: lists of so many places are never too short for it.
+pub const MOST_BREATHS: usize = 65_536;
+
 extern "C" {
     pub fn slash_round(kind: u64, k: u64, n: u64, d: u64, word: *mut u64) -> u64;
     pub fn slash_binary(kind: u64, k: u64, code: u64, left: u64, right: u64, word: *mut u64)
@@ -69,5 +72,15 @@ extern "C" {
         recording_length: usize,
         listing: *mut u8,
         length: *mut u64,
+    ) -> u64;
+    pub fn slash_load(
+        text: *const u8,
+        text_length: usize,
+        numbers: *mut u64,
+        numbers_length: usize,
+        words: *mut u64,
+        words_length: usize,
+        count: *mut u64,
+        total: *mut u64,
     ) -> u64;
 }

@@ -1,6 +1,6 @@
 //! The papers' edges, through the safe functions.
 
-use slash::{raw, Binary, Format, Stop, Unary};
+use slash::{raw, Binary, Format, Loaded, Stop, Unary};
 use std::cmp::Ordering;
 
 const FIXED_3: Format = Format::fixed(3);
@@ -121,12 +121,15 @@ fn vectors_store_all_or_nothing() {
     assert_eq!(add(&[], &[], &mut []), Ok(()));
 }
 
+/// The paper's recording, and what is printed for it.
+const RECORDING: &str = "0\t277\t642\n4294967290\t10\t34\n100\t100\t100\n";
+const LISTING: &str = "1\t01150282\t277/642\t43.1\n2\t00020005\t2/5\t40.0\n3\t00000000\t-\t-\n\
+                       all\t012502aa\t293/682\t43.0\n";
+
 #[test]
 fn a_night_is_listed_as_the_paper_prints_it() {
-    let listing = slash::night(b"0\t277\t642\n4294967290\t10\t34\n100\t100\t100\n");
-    let expected = "1\t01150282\t277/642\t43.1\n2\t00020005\t2/5\t40.0\n3\t00000000\t-\t-\n\
-                    all\t012502aa\t293/682\t43.0\n";
-    assert_eq!(listing.as_deref(), Ok(expected.as_bytes()));
+    let listing = slash::night(RECORDING.as_bytes());
+    assert_eq!(listing.as_deref(), Ok(LISTING.as_bytes()));
 }
 
 const GOOD: &[u8] = b"0\t277\t642\n";
@@ -180,4 +183,111 @@ fn a_listing_keeps_what_lies_beyond_it() {
         assert!(listed == expected);
         assert!(beyond.iter().all(|&byte| byte == LENT_BYTE));
     }
+}
+
+#[test]
+fn a_listing_is_read_back() {
+    let loaded = Loaded {
+        words: vec![0x0115_0282, 0x0002_0005, 0],
+        total: 0x0125_02aa,
+    };
+    assert_eq!(slash::load(LISTING.as_bytes()), Ok(loaded));
+    let longest = slash::night(&GOOD.repeat(65_536)).expect("a listing");
+    let loaded = Loaded {
+        words: vec![0x0115_0282; 65_536],
+        total: 0x0115_0282,
+    };
+    assert!(slash::load(&longest) == Ok(loaded));
+}
+
+/// All that is lent to the archive for a listing: the two lists, the count and the total.
+#[derive(Clone, Debug, PartialEq)]
+struct Lent {
+    numbers: Vec<u64>,
+    words: Vec<u64>,
+    count: u64,
+    total: u64,
+}
+
+impl Lent {
+    fn of_lengths(numbers: usize, words: usize) -> Lent {
+        Lent {
+            numbers: vec![8; numbers],
+            words: vec![9; words],
+            count: 10,
+            total: 11,
+        }
+    }
+
+    /// What the archive returns for a listing.
+    fn load(&mut self, listing: &[u8]) -> u64 {
+        let (start, length) = (listing.as_ptr(), listing.len());
+        let (numbers, words) = (&mut self.numbers, &mut self.words);
+        // SAFETY: the pointers come from live Rust values, with their lengths.
+        unsafe {
+            raw::slash_load(
+                start,
+                length,
+                numbers.as_mut_ptr(),
+                numbers.len(),
+                words.as_mut_ptr(),
+                words.len(),
+                &mut self.count,
+                &mut self.total,
+            )
+        }
+    }
+}
+
+#[test]
+fn lists_keep_what_lies_beyond_the_breaths() {
+    let mut lent = Lent::of_lengths(4, 5);
+    assert_eq!(lent.load(LISTING.as_bytes()), 0);
+    assert_eq!(lent.numbers, [1, 2, 3, 8]);
+    assert_eq!(lent.words, [0x0115_0282, 0x0002_0005, 0, 9, 9]);
+    assert_eq!((lent.count, lent.total), (3, 0x0125_02aa));
+}
+
+#[test]
+fn a_list_shorter_than_the_breaths_leaves_what_is_lent() {
+    for (numbers, words) in [(2, 3), (3, 2), (0, 0)] {
+        let before = Lent::of_lengths(numbers, words);
+        let mut lent = before.clone();
+        assert_eq!(lent.load(LISTING.as_bytes()), 7);
+        assert_eq!(lent, before);
+    }
+    assert_eq!(Lent::of_lengths(3, 3).load(LISTING.as_bytes()), 0);
+}
+
+#[test]
+fn a_refused_listing_stops_at_its_line_and_leaves_what_is_lent() {
+    let refused = |number: u8, place: u64, listing: &str| {
+        let stop = Err(Stop { number, place });
+        assert_eq!(slash::load(listing.as_bytes()), stop, "{listing:?}");
+        // Of no places, so that 7 would come, too, did it not come last.
+        for places in [0, 4] {
+            let before = Lent::of_lengths(places, places);
+            let mut lent = before.clone();
+            assert_eq!(
+                lent.load(listing.as_bytes()),
+                place * 256 + u64::from(number)
+            );
+            assert_eq!(lent, before);
+        }
+    };
+    let changed = |from, to| LISTING.replace(from, to);
+    refused(13, 2, &changed("2\t0002", "02\t0002"));
+    refused(13, 2, &changed("40.0", "40.00"));
+    refused(13, 4, LISTING.trim_end());
+    refused(13, 5, &changed("43.0\n", "43.0\n\n"));
+    refused(14, 2, &changed("2\t0002", "18446744073709551618\t0002"));
+    refused(14, 4, &LISTING[..LISTING.find("all").expect("a total")]);
+    refused(14, 5, &changed("43.0\n", "43.0\n5\t00000000\t-\t-\n"));
+    refused(14, 1, "all\t00000000\t0/1\t0.0\n");
+    refused(14, 1, "");
+    refused(15, 2, &changed("40.0", "40.1"));
+    refused(15, 2, &changed("00020005\t2/5", "0004000a\t4/10"));
+    refused(15, 3, &changed("-\t-", "0/1\t0.0"));
+    // The first bad line stops, whatever stands behind it.
+    refused(15, 2, &changed("40.0\n3\t", "40.1\nx\t"));
 }

@@ -2,6 +2,8 @@
 //!
 //! A refused call returns `Err` of its place times 256 plus the stop's number.
 
+mod line;
+pub mod load;
 pub mod night;
 
 pub type Answer = Result<u64, u64>;

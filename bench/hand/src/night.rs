@@ -2,109 +2,14 @@
 //!
 //! A bad line stops the call that begins with it, or with the recording, and nothing is stored.
 
+use crate::line::{in_window, Listing, MOST_BREATHS, MOST_BYTES};
 use crate::{cut, form, put, Answer, Form};
 
 /// The bytes of the longest listing.
 pub const LISTING_BYTES: usize = 2_162_719;
 
-const MOST_LINES: u32 = 65536;
-
-/// The longest line, with its line feed; no listed line is longer either.
-const MOST_BYTES: usize = 33;
-
 /// The largest tick mark, the longest that is none too large.
 const LARGEST_MARK: &[u8] = b"4294967295";
-
-/// The listing, as far as it is written.
-struct Listing<'a> {
-    bytes: &'a mut [u8],
-    length: usize,
-}
-
-impl Listing<'_> {
-    #[inline]
-    fn text<const COUNT: usize>(&mut self, text: &[u8; COUNT]) {
-        self.bytes[self.length..self.length + COUNT].copy_from_slice(text);
-        self.length += COUNT;
-    }
-
-    #[inline]
-    fn byte(&mut self, byte: u8) {
-        self.text(&[byte]);
-    }
-
-    #[inline]
-    fn two_digits(&mut self, number: u32) {
-        self.text(&[digit(number / 10), digit(number % 10)]);
-    }
-
-    /// A number of one digit or two.
-    #[inline]
-    fn short(&mut self, number: u32) {
-        if number < 10 {
-            self.byte(digit(number));
-        } else {
-            self.two_digits(number);
-        }
-    }
-
-    /// A number of at most five digits.
-    #[inline]
-    fn decimal(&mut self, number: u32) {
-        if number < 100 {
-            self.short(number);
-        } else if number < 10_000 {
-            self.short(number / 100);
-            self.two_digits(number % 100);
-        } else {
-            self.byte(digit(number / 10_000));
-            self.two_digits(number / 100 % 100);
-            self.two_digits(number % 100);
-        }
-    }
-
-    #[inline]
-    fn hexadecimal(&mut self, word: u32) {
-        let mut digits = [0; 8];
-        for (place, digit) in digits.iter_mut().rev().enumerate() {
-            *digit = b"0123456789abcdef"[(word >> (4 * place) & 15) as usize];
-        }
-        self.text(&digits);
-    }
-
-    /// The columns after the name: the word, its fraction and its percentage.
-    #[inline]
-    fn columns(&mut self, stored: Form, inward: u64, whole: u64) {
-        if whole == 0 || inward > whole {
-            return self.text(b"\t00000000\t-\t-\n");
-        }
-        let (n, d, changed) = cut(stored, inward, whole);
-        let word = put(stored, false, changed, n, d);
-        let (n, d) = (n as u32, d as u32);
-        self.byte(b'\t');
-        self.hexadecimal(word as u32);
-        self.byte(b'\t');
-        self.decimal(n);
-        self.byte(b'/');
-        self.decimal(d);
-        self.byte(b'\t');
-        let tenths = thousandths(n, d);
-        self.decimal(tenths / 10);
-        self.text(&[b'.', digit(tenths % 10), b'\n']);
-    }
-}
-
-/// The nearest whole number to 1000 n/d, at a tie the even one: up past a half, and at a half from an odd one.
-#[inline]
-fn thousandths(n: u32, d: u32) -> u32 {
-    let (below, rest) = (1000 * n / d, 1000 * n % d);
-    below + u32::from(d < 2 * rest + below % 2)
-}
-
-#[inline]
-fn digit(number: u32) -> u8 {
-    b'0' + number as u8
-}
 
 /// Lists a recording and gives the listing's length. It is read through before anything is stored.
 #[inline]
@@ -171,14 +76,14 @@ impl Night {
             match next_line(self.line, rest, breath) {
                 Ok((inward, whole, used)) => {
                     listing.decimal(self.line);
-                    listing.columns(stored, inward, whole);
+                    columns(&mut listing, stored, inward, whole);
                     self.add(inward, whole);
                     rest = &rest[used..];
                     continue;
                 }
                 Err(End::Closed) => {
                     listing.text(b"all");
-                    listing.columns(stored, self.in_sum, self.whole_sum);
+                    columns(&mut listing, stored, self.in_sum, self.whole_sum);
                     end = End::Closed;
                 }
                 Err(refused) if rest.len() == recording.len() => end = refused,
@@ -203,6 +108,17 @@ impl Night {
     }
 }
 
+/// Lists the columns of a ratio, rounded; those of a void one where it is void.
+#[inline]
+fn columns(listing: &mut Listing, stored: Form, inward: u64, whole: u64) {
+    if whole == 0 || inward > whole {
+        return listing.void();
+    }
+    let (n, d, changed) = cut(stored, inward, whole);
+    let word = put(stored, false, changed, n, d);
+    listing.columns(word as u32, n as u32, d as u32);
+}
+
 /// Whether no byte that follows these changes what their first line says.
 #[inline]
 fn is_sure(rest: &[u8]) -> bool {
@@ -221,7 +137,7 @@ fn next_line<T>(
             return Err(End::Closed);
         }
         12
-    } else if line > MOST_LINES {
+    } else if line > MOST_BREATHS {
         8
     } else if let Some(found) = in_window(rest, read) {
         return Ok(found);
@@ -230,18 +146,6 @@ fn next_line<T>(
     };
     let line = u64::from(line);
     Err(End::Refused { number, line })
-}
-
-/// What is read at the start of some bytes.
-#[inline]
-fn in_window<T>(bytes: &[u8], read: impl Fn(&[u8; MOST_BYTES]) -> Option<T>) -> Option<T> {
-    let Some(line) = bytes.first_chunk() else {
-        // The last lines of a recording: no byte behind it ends a mark.
-        let mut line = [0; MOST_BYTES];
-        line[..bytes.len()].copy_from_slice(bytes);
-        return read(&line);
-    };
-    read(line)
 }
 
 /// The bytes that a good line uses.

@@ -10,7 +10,7 @@ use mathlib.Core.Logic.{⊎-elim}
 use Prim.Native.Nat.{ℕ, zero, suc, _+_, _*_, _%_, _^_, _≤_, _<_}
 use native.Mathlib.Omega.{arith}
 use native.Mathlib.Nat.{mul-le-mul-left, mul-le-mul-right, mod-lt}
-use native.Mathlib.Decide.{decLe}
+use native.Mathlib.Decide.{decLe, ℕ-discrete}
 use lib.Dec.{eqb, ltb}
 use borrow.Author.Tests.{eqb-true, eqb-false, ltb-false, eq-eqb, ne-eqb}
 use Rattle.convergents.specs.Pairs.{Pair, pair, differs}
@@ -19,7 +19,7 @@ use Rattle.convergents.specs.Best.{Best}
 use Rattle.convergents.proofs.Optimal.{held-is, zero-held}
 use Rattle.convergents.proofs.BestLaws.{round-best}
 use Rattle.slash.specs.Answers.{Outcome, done, writtenOutcome, WhenDone}
-use Rattle.slash.specs.Bits.{bits, wordOfFields}
+use Rattle.slash.specs.Bits.{bits, bit, wordOfFields}
 use Rattle.slash.specs.Formats.{kFits, known, holds}
 use Rattle.slash.specs.Reading.{fixedValue, fixedNumber, numberOf}
 use Rattle.slash.specs.Writing.{fixedWord, pairWord, wordFor, isOverZero, writeNumber, exactRatio}
@@ -36,7 +36,7 @@ use Rattle.slash.proofs.FormatLaws.{format-limit, fixed-parts}
 use Rattle.slash.proofs.WritingLaws.{write-done, word-best}
 use Rattle.slash.proofs.WordLaws.{word-rounded, word-mark}
 use Rattle.breaths.specs.Breaths.{span, breathOf, isVoid, breathRatio, breathWord, BestBreaths}
-use Rattle.breaths.specs.Ratios.{ratioFormat, ratioWord, wordOf, fractionOf, BestRatio}
+use Rattle.breaths.specs.Ratios.{ratioFormat, ratioWord, wordOf, ratioOf, fractionOf, BestRatio}
 use Rattle.breaths.specs.Sums.{noneLeft, nightRatio, nightWord}
 use Rattle.breaths.specs.Steps.{Proportion, PrintableRatio, Proper}
 use Rattle.breaths.specs.declared.breath.Breath.{Breath}
@@ -178,6 +178,37 @@ module _ (r : Ratio) where
   pub word-word : (w : ℕ) → r ≡ Word w → w ≡ wordOf r
   unfolding wordOf
   word-word w e = rw e refl
+
+-- the answers of `Ratio::of_word`
+module _ (w : ℕ) where
+  pub of-zero : w ≡ 0 → Void ≡ ratioOf w
+  unfolding ratioOf
+  of-zero z = rw (eq-eqb w 0 z) refl
+
+  pub of-some : (w ≡ 0 → ⊥) → Word w ≡ ratioOf w
+  unfolding ratioOf
+  of-some z = rw (ne-eqb w 0 z) refl
+
+  -- and its word is the word again
+  pub word-of-ratio : wordOf (ratioOf w) ≡ w
+  unfolding wordOf
+  word-of-ratio = go (ℕ-discrete w 0)
+    where
+      go : Dec (w ≡ 0) → wordOf (ratioOf w) ≡ w
+      go (yes z) = ap wordOf (sym (of-zero z)) ∙ sym z
+      go (no z) = ap wordOf (sym (of-some z))
+
+zero-over : fractionOf 0 .denominator ≡ 0
+unfolding fractionOf pairOf numberOf fixedNumber fixedValue bits bit
+zero-over = refl
+
+-- a ratio that a line shows is that of its word
+pub ratio-of-word : (r : Ratio) → PrintableRatio r → ratioOf (wordOf r) ≡ r
+unfolding wordOf
+ratio-of-word Void s = sym (of-zero 0 refl)
+ratio-of-word (Word w) s =
+    let z : w ≡ 0 → ⊥ = λ e. omega (arith, s .some, ap (λ (v : ℕ). fractionOf v .denominator) e, zero-over) in
+    sym (of-some w z)
 
 -- what the ratio of a breath and of a night promises: what it is, its word, and demand 3
 abbrev Promised : (ratio : Ratio) (word N D : ℕ) → Ratio → Type 0

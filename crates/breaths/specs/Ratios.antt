@@ -1,6 +1,8 @@
 -- A ratio as a slash word, of a breath or of a night.
 use Prim.Native.Nat.{ℕ}
 use mathlib.Core.Bool.{false}
+use lib.Dec.{eqb}
+use Rattle.convergents.specs.Choice.{if_then_else_}
 use Rattle.convergents.specs.Pairs.{Pair}
 use Rattle.slash.specs.Reading.{numberOf}
 use Rattle.slash.specs.Writing.{wordFor, exactRatio}
@@ -22,6 +24,10 @@ ratioWord N D = wordFor ratioFormat false (exactRatio N D .value)
 unfoldable pub wordOf : Ratio → ℕ
 wordOf Void = 0
 wordOf (Word w) = w
+
+-- The ratio that a stored word stands for: 0 is void.
+unfoldable pub ratioOf : ℕ → Ratio
+ratioOf w = if eqb w 0 then Void else Word w
 
 -- A word's fraction: the pair that it is read as.
 unfoldable pub fractionOf : ℕ → Pair

@@ -1,7 +1,7 @@
 // A ratio as a slash word of fixed k = 15.
 ghost use mathlib.Core.Path.{_≡_};
 ghost use Prim.Native.Nat.{_≤_};
-ghost use Rattle.breaths.specs.Ratios.{ratioFormat, ratioWord, wordOf, BestRatio};
+ghost use Rattle.breaths.specs.Ratios.{ratioFormat, ratioWord, wordOf, ratioOf, BestRatio};
 use slash::Format;
 use slash::Written;
 
@@ -30,6 +30,13 @@ impl Ratio {
             Ratio::Void => 0,
             Ratio::Word(w) => w,
         }
+    }
+
+    // The ratio that a stored word stands for: 0 is void.
+    pub fn of_word(w: u64) -> Ratio
+        ensures { λ r. ⌜ r ≡ ratioOf w ⌝ }
+    {
+        if w == 0 { Ratio::Void } else { Ratio::Word(w) }
     }
 }
 

@@ -1,13 +1,19 @@
 -- What a call returns and leaves behind a pointer. Assumes nothing.
 -- `status-stop`, `status-done`: the stop's number and place, and nothing stored; or 0, and the result stored. `vector-stop`, `vector-done`:
 -- what a vector form returns; `vector-as`: and what stands in the vector. `stored-best`, `stored-made`: and the clause `best` is handed on.
+-- `loaded-done`, `loaded-stop`: what loading returns, and stores behind two pointers.
 use mathlib.Core.Path.{_≡_, refl, sym, ap, _∙_, subst}
 use mathlib.Core.List.{List}
 use Prim.Native.Nat.{ℕ, _+_, _*_, _%_, _^_}
 use Rattle.slash.specs.Answers.{Outcome, stop, done, completionOutcome, WhenDone}
 use Rattle.slash.specs.declared.answer.Completion.{Completion}
 use Rattle.vectors.specs.Each.{stopOnly, vectorAfter}
-use Rattle.ffi.specs.Status.{status, behind}
+use Rattle.slash.specs.declared.answer.Stop.{Stop}
+use Rattle.loading.specs.Fills.{loadedOutcome}
+use Rattle.loading.specs.declared.load.Counted.{Counted}
+use Rattle.loading.specs.declared.load.Loaded.{Loaded}
+use Rattle.loading.specs.declared.load.Loaded.the-variants as Loaded
+use Rattle.ffi.specs.Status.{status, behind, breathsOf, totalOf}
 
 behind-done : (x old : ℕ) → behind (done x) old ≡ x
 unfolding behind
@@ -65,3 +71,18 @@ vector-as o v X r old new s e = (
   e ∙ ap status (s .0) ∙ status-stop-only o,
   (s .1 .0, when-stop-only o X (subst (λ (p : Outcome (Unit {0})). WhenDone p (λ _. X)) (s .0) (s .1 .1))),
 )
+
+-- what loading answers, and leaves behind two pointers
+module _ (o : Outcome Counted) (l : Loaded) (e : loadedOutcome l ≡ o) (old older : ℕ) where
+  pub loaded-done : (c : Counted) → l ≡ Loaded.Done c → (0 ≡ status o) × ((c .breaths ≡ behind (breathsOf o) old) × (c .total ≡ behind (totalOf o) older))
+  unfolding status behind breathsOf totalOf
+  loaded-done c d =
+      let h : done c ≡ o = sym (ap loadedOutcome d) ∙ e in
+      (rw (← h) refl, (rw (← h) refl, rw (← h) refl))
+
+  pub loaded-stop : (s : Stop) → l ≡ Loaded.Stopped s → (r : ℕ) → r ≡ s .place % 2 ^ 56 * 256 + s .number % 256
+      → (r ≡ status o) × ((old ≡ behind (breathsOf o) old) × (older ≡ behind (totalOf o) older))
+  unfolding status behind breathsOf totalOf
+  loaded-stop s d r g =
+      let h : stop (s .number) (s .place) ≡ o = sym (ap loadedOutcome d) ∙ e in
+      (rw (← h) g, (rw (← h) refl, rw (← h) refl))

@@ -1,6 +1,7 @@
 // The listing of a recording.
 ghost use mathlib.Core.Path.{_≡_};
-ghost use Rattle.listing.specs.Listing.{nightOutcome, lengthOf, listAfter, BestNight};
+ghost use Rattle.text.specs.Stores.{lengthOf, listAfter};
+ghost use Rattle.listing.specs.Listing.{nightOutcome, BestNight};
 ghost use Rattle.ffi.specs.Status.{status, behind};
 use crate::status::store;
 

@@ -11,7 +11,7 @@ use slash::Written;
 // 2^56: so many places can be told.
 const PLACES: u64 = 72057594037927936;
 
-fn stop_status(s: Stop) -> u64
+pub(crate) fn stop_status(s: Stop) -> u64
     ensures { λ r. ⌜ r ≡ s .place % 72057594037927936 * 256 + s .number % 256 ⌝ }
 {
     s.place % PLACES * 256 + s.number % 256

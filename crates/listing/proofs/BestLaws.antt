@@ -15,7 +15,8 @@ use Rattle.breaths.proofs.SumLaws.{add-none, add-breath}
 use Rattle.recording.specs.Reading.{aBreath, nextOf, breathsFrom, breathsOn}
 use Rattle.recording.specs.declared.line.Entry.{Entry}
 use Rattle.recording.proofs.ReadingLaws.{follows-breath, next-taken, breaths-more, breaths-none}
-use Rattle.listing.specs.Listing.{breathLine, allLine, numbered}
+use Rattle.text.specs.Lines.{numbered}
+use Rattle.listing.specs.Listing.{breathLine, allLine, ratiosOf}
 use Rattle.listing.specs.Nights.{withLine}
 use Rattle.listing.specs.Pieces.{endOutcome, ListedPiece, leftToNext, endsHere, lineThen, pieceFrom, pieceOf, breathsOf, endText, BestPiece}
 use Rattle.listing.specs.declared.night.Night.{Night}
@@ -40,11 +41,11 @@ taken-more steps line bs entry n used =
 
 -- The text is the numbered lines of some breaths, and `all` at the end; and so are the sums.
 record Lists (night : Night) (breaths : List Breath) (l : ListedPiece) : Type 0 where
-  pub lines : l .text ≡ numbered (night .breath) breaths ++ endText (l .night .sums) (endOutcome (l .end))
+  pub lines : l .text ≡ numbered (night .breath) (ratiosOf breaths) ++ endText (l .night .sums) (endOutcome (l .end))
   pub sums : l .night .sums ≡ addSums (night .sums) (sumsOf breaths)
 
 lists-endsHere : (night : Night) (text : List ℕ) (end : End) → text ≡ endText (night .sums) (endOutcome end) → Lists night [] (endsHere night text end)
-unfolding endsHere numbered
+unfolding endsHere numbered ratiosOf
 lists-endsHere night text end e = record { lines = e; sums = add-none (night .sums) }
 
 left-text : (used : ℕ) (s : Sums) (end : End) → endText s (endOutcome end) ≡ endText s (endOutcome (leftToNext used end))
@@ -57,10 +58,10 @@ left-text (suc n) s NoNight = refl
 
 lists-lineThen : (night : Night) (b : Breath) (breaths : List Breath) (used : ℕ) (l : ListedPiece) → Lists (withLine night b) breaths l
     → Lists night (b ∷ breaths) (lineThen (breathLine (night .breath) b) used l)
-unfolding lineThen numbered withLine
+unfolding lineThen numbered ratiosOf breathLine withLine
 lists-lineThen night b breaths used l p =
     let line : List ℕ = breathLine (night .breath) b in
-    let rest : List ℕ = numbered (suc (night .breath)) breaths in
+    let rest : List ℕ = numbered (suc (night .breath)) (ratiosOf breaths) in
     record {
       lines =
           ap (λ (t : List ℕ). line ++ t) (p .lines)

@@ -12,7 +12,7 @@ use Rattle.breaths.specs.Breaths.{span, breathOf, isVoid, breathRatio}
 use Rattle.breaths.specs.Ratios.{ratioWord, wordOf, fractionOf}
 use Rattle.breaths.specs.Sums.{withBreath, noneLeft, nightRatio}
 use Rattle.text.specs.Numbers.{decimalFrom, decimal, hexDigit, hexadecimal}
-use Rattle.text.specs.Scan.{lengthBefore, isDigit, lineFields}
+use Rattle.text.specs.Scan.{lengthBefore, isDigit, parted}
 use Rattle.text.specs.Columns.{thousandths, percentage, fractionText, fractionAndPercentage, columns}
 use Rattle.text.specs.Lines.{nameText, lineOf}
 use Rattle.recording.specs.Lines.{digitsFrom, readTick, fromTicks, fromFields, readLine}
@@ -22,5 +22,5 @@ use Rattle.listing.specs.Nights.{withLine}
 use Rattle.listing.specs.Example.{exampleRecording, exampleListing}
 
 pub paper-example : listingOf exampleRecording ≡ exampleListing
-unfolding exampleRecording exampleListing listingOf listingOn listingFrom nextOf fromLine closing withLine breathLine allLine lineOf nameText readLine lineFields fromFields fromTicks lengthBefore readTick digitsFrom isDigit columns fractionAndPercentage wordOf fractionText percentage thousandths fractionOf breathRatio nightRatio noneLeft withBreath ratioWord isVoid breathOf span decimal decimalFrom hexadecimal hexDigit wordFor pairWord fixedWord wordOfFields bitOf pairOf numberOf fixedNumber fixedValue bits bit round lastHeld held convergents recurrence quotients euclid differs holds
+unfolding exampleRecording exampleListing listingOf listingOn listingFrom nextOf fromLine closing withLine breathLine allLine lineOf nameText readLine parted fromFields fromTicks lengthBefore readTick digitsFrom isDigit columns fractionAndPercentage wordOf fractionText percentage thousandths fractionOf breathRatio nightRatio noneLeft withBreath ratioWord isVoid breathOf span decimal decimalFrom hexadecimal hexDigit wordFor pairWord fixedWord wordOfFields bitOf pairOf numberOf fixedNumber fixedValue bits bit round lastHeld held convergents recurrence quotients euclid differs holds
 paper-example = refl

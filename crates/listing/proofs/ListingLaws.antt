@@ -17,13 +17,13 @@ use Rattle.breaths.specs.declared.sums.Sums.{Sums}
 use Rattle.breaths.specs.declared.ratio.Ratio.the-variants.{Word}
 use Rattle.breaths.proofs.RatioLaws.{breath-proportion, night-proportion, breaths-best, night-best}
 use Rattle.breaths.proofs.SumLaws.{add-none, none-add, add-breath, sums-proper}
-use Rattle.text.specs.Lines.{lineOf, refusedLine, isPrintable}
+use Rattle.text.specs.Lines.{lineOf, numbered, refusedLine, isPrintable}
 use Rattle.text.specs.declared.line.Name.the-variants.{Number, All}
 use Rattle.text.proofs.LineLaws.{NearestPrinted, printed-nearest, printable-is, number-length, all-length, refused-length}
 use Rattle.recording.specs.Reading.{Coming, aBreath, theEnd, nextOf, breathsFrom, checkFrom, breathsOn, breathsIn, recordingCheck}
 use Rattle.recording.specs.declared.line.Entry.{Entry}
 use Rattle.recording.proofs.ReadingLaws.{follows-breath, follows-stop, breaths-more, breaths-end, breaths-stop, check-more, check-end, check-stop}
-use Rattle.listing.specs.Listing.{breathLine, allLine, listingFrom, listingOn, listingOf, numbered, lastLine, BestNight}
+use Rattle.listing.specs.Listing.{breathLine, allLine, listingFrom, listingOn, listingOf, ratiosOf, lastLine, BestNight}
 use Rattle.listing.specs.Nights.{begun, withLine}
 use Rattle.listing.specs.declared.night.Night.{Night}
 use Rattle.listing.proofs.NightLaws.{Real, begun-real, real-next, line-suc}
@@ -134,17 +134,17 @@ listing-length bs = omega (arith, lines-length 65537 begun bs begun-real (omega 
 
 -- the lines of some breaths from a night on, and then the last
 linesOf : Night → List Breath → Outcome (Unit {0}) → List ℕ
-linesOf night breaths o = numbered (night .breath) breaths ++ lastLine (addSums (night .sums) (sumsOf breaths)) o
+linesOf night breaths o = numbered (night .breath) (ratiosOf breaths) ++ lastLine (addSums (night .sums) (sumsOf breaths)) o
 
 lines-none : (night : Night) (o : Outcome (Unit {0})) → lastLine (night .sums) o ≡ linesOf night [] o
-unfolding linesOf numbered
+unfolding linesOf numbered ratiosOf
 lines-none night o = ap (λ (s : Sums). lastLine s o) (add-none (night .sums))
 
 lines-some : (night : Night) (b : Breath) (breaths : List Breath) (o : Outcome (Unit {0}))
     → breathLine (night .breath) b ++ linesOf (withLine night b) breaths o ≡ linesOf night (b ∷ breaths) o
-unfolding linesOf numbered withLine
+unfolding linesOf numbered ratiosOf breathLine withLine
 lines-some night b breaths o =
-    let rest : List ℕ = numbered (suc (night .breath)) breaths in
+    let rest : List ℕ = numbered (suc (night .breath)) (ratiosOf breaths) in
     ap (λ (s : Sums). breathLine (night .breath) b ++ (rest ++ lastLine s o)) (add-breath b breaths (night .sums))
     ∙ sym (append-assoc (breathLine (night .breath) b) rest (lastLine (addSums (night .sums) (sumsOf (b ∷ breaths))) o))
 
@@ -191,11 +191,11 @@ listing-lines (suc steps) night bs r e = go (nextOf (night .line) bs) refl (λ n
         (listing-stop steps night bs n ∙ last-stop (night .sums) number place ∙ lines-none night (stop number place))
 
 -- A listing is the numbered lines of the recording's breaths, and then `all` of their sums, or `refused`.
-pub listing-breaths : (bs : List ℕ) → listingOf bs ≡ numbered 1 (breathsIn bs) ++ lastLine (sumsOf (breathsIn bs)) (recordingCheck bs)
+pub listing-breaths : (bs : List ℕ) → listingOf bs ≡ numbered 1 (ratiosOf (breathsIn bs)) ++ lastLine (sumsOf (breathsIn bs)) (recordingCheck bs)
 unfolding listingOf listingOn breathsIn breathsOn recordingCheck linesOf
 listing-breaths bs =
     listing-lines 65537 begun bs begun-real (omega arith)
-    ∙ ap (λ (s : Sums). numbered 1 (breathsFrom 65537 1 bs) ++ lastLine s (checkFrom 65537 1 bs)) (none-add (sumsOf (breathsFrom 65537 1 bs)))
+    ∙ ap (λ (s : Sums). numbered 1 (ratiosOf (breathsFrom 65537 1 bs)) ++ lastLine s (checkFrom 65537 1 bs)) (none-add (sumsOf (breathsFrom 65537 1 bs)))
 
 -- Demand 3, of a night.
 pub best-night : (bs : List ℕ) → BestNight bs

@@ -4,7 +4,7 @@
 use mathlib.Core.Path.{_≡_, refl, sym, ap, _∙_, subst}
 use mathlib.Core.Bool.{Bool, true, false}
 use mathlib.Core.List.{List, [], _++_, append-assoc}
-use Prim.Native.Nat.{ℕ, zero, suc, _+_, _-_, _^_, _≤_, _<_}
+use Prim.Native.Nat.{ℕ, zero, suc, _+_, _-_, _≤_}
 use native.Mathlib.Omega.{arith}
 use native.Mathlib.Nat.{add-zero, zero-add, suc-add, add-assoc, sub-zero}
 use lib.ListN.{length, take, drop, length-drop}
@@ -26,7 +26,8 @@ use Rattle.recording.specs.Reading.{nextOutcome, nextOf}
 use Rattle.recording.specs.declared.line.Entry.{Entry}
 use Rattle.recording.specs.declared.reading.Next.{Next}
 use Rattle.recording.specs.declared.reading.Next.the-variants as Next
-use Rattle.recording.proofs.LineLaws.{Whole, tail-is}
+use Rattle.recording.proofs.LineLaws.{Whole}
+use Rattle.text.proofs.PartLaws.{tail-is}
 use Rattle.recording.proofs.ReadingLaws.{follows-breath}
 use Rattle.listing.specs.Listing.{breathLine, allLine}
 use Rattle.listing.specs.Nights.{withLine, isNight}

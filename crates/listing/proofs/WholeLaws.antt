@@ -11,10 +11,10 @@ use Rattle.slash.specs.declared.answer.Completion.{Completion}
 use Rattle.slash.specs.declared.answer.Completion.the-variants as Completion
 use Rattle.slash.proofs.AnswerLaws.{no-stop}
 use Rattle.breaths.specs.declared.breath.Breath.{Breath}
-use Rattle.text.specs.Stores.{atStart}
+use Rattle.text.specs.Stores.{atStart, lengthOf, listAfter}
 use Rattle.recording.specs.Reading.{Coming, aBreath, theEnd, nextOf, checkFrom, recordingCheck}
 use Rattle.recording.proofs.ReadingLaws.{check-more, check-stop}
-use Rattle.listing.specs.Listing.{breathLine, allLine, listingFrom, listingOn, listingOf, nightOutcome, lengthOf, listAfter, BestNight}
+use Rattle.listing.specs.Listing.{breathLine, allLine, listingFrom, listingOn, listingOf, nightOutcome, BestNight}
 use Rattle.listing.specs.Nights.{begun, withLine}
 use Rattle.listing.specs.Pieces.{ListedPiece, endsHere, lineThen, isSure, pieceFrom, pieceOf, answerOf}
 use Rattle.listing.specs.declared.night.Night.{Night}

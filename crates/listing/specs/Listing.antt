@@ -1,16 +1,16 @@
 -- A night's listing, from the bytes of its recording.
-use Prim.Native.Nat.{ℕ, zero, suc, _-_}
+use Prim.Native.Nat.{ℕ, zero, suc}
 use mathlib.Core.List.{List, [], _∷_, _++_}
 use mathlib.Core.Path.{_≡_}
-use lib.ListN.{drop, length}
+use lib.ListN.{drop}
 use Rattle.slash.specs.Answers.{Outcome, stop, done, _then_}
 use Rattle.breaths.specs.Breaths.{breathRatio, BestBreaths}
 use Rattle.breaths.specs.Sums.{nightRatio, sumsOf}
 use Rattle.breaths.specs.Ratios.{BestRatio}
 use Rattle.breaths.specs.declared.breath.Breath.{Breath}
 use Rattle.breaths.specs.declared.sums.Sums.{Sums}
-use Rattle.text.specs.Lines.{lineOf, refusedLine}
-use Rattle.text.specs.Stores.{atStart}
+use Rattle.breaths.specs.declared.ratio.Ratio.{Ratio}
+use Rattle.text.specs.Lines.{lineOf, numbered, refusedLine}
 use Rattle.text.specs.declared.line.Name.the-variants.{Number, All}
 use Rattle.recording.specs.Reading.{aBreath, theEnd, nextOf, linesFrom, breathsIn, recordingCheck}
 use Rattle.listing.specs.Nights.{begun, withLine}
@@ -49,10 +49,10 @@ listingOf bs = listingOn begun bs
 
 -- ---- the same by its breaths
 
--- The lines of some breaths, numbered from a number on.
-unfoldable pub numbered : (number : ℕ) → List Breath → List ℕ
-numbered number [] = []
-numbered number (b ∷ bs) = breathLine number b ++ numbered (suc number) bs
+-- The ratios of some breaths.
+unfoldable pub ratiosOf : List Breath → List Ratio
+ratiosOf [] = []
+ratiosOf (b ∷ bs) = breathRatio b ∷ ratiosOf bs
 
 -- What a listing ends with: `all`; or `refused`, the stop's number and the line.
 unfoldable pub lastLine : Sums → Outcome (Unit {0}) → List ℕ
@@ -65,20 +65,11 @@ lastLine s (done x) = allLine s
 unfoldable pub nightOutcome : List ℕ → Outcome (List ℕ)
 nightOutcome bs = recordingCheck bs then λ _. done (listingOf bs)
 
--- How long a text is.
-unfoldable pub lengthOf : Outcome (List ℕ) → Outcome ℕ
-lengthOf o = o then λ text. done (length text)
-
--- What the lent list is then: as it was on a stop; else with the text at its start.
-unfoldable pub listAfter : Outcome (List ℕ) → List ℕ → List ℕ
-listAfter (stop number place) old = old
-listAfter (done text) old = atStart text old
-
 -- ---- demand 3
 
--- Demand 3, of a night: its listing is the numbered lines of its breaths, and then `all` of their sums, or `refused`; and the word of each breath
+-- Demand 3, of a night: its listing is the numbered lines of its breaths' ratios, and then `all` of their sums, or `refused`; and the word of each breath
 -- that isn't void, and of all of them, is best for its N and D.
 pub record BestNight (bs : List ℕ) : Type 0 where
-  pub lines : listingOf bs ≡ numbered 1 (breathsIn bs) ++ lastLine (sumsOf (breathsIn bs)) (recordingCheck bs)
+  pub lines : listingOf bs ≡ numbered 1 (ratiosOf (breathsIn bs)) ++ lastLine (sumsOf (breathsIn bs)) (recordingCheck bs)
   pub each : BestBreaths (breathsIn bs)
   pub all : BestRatio (sumsOf (breathsIn bs) .inspiration) (sumsOf (breathsIn bs) .whole) (nightRatio (sumsOf (breathsIn bs)))

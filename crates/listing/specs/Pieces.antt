@@ -12,12 +12,12 @@ use Rattle.breaths.specs.Ratios.{BestRatio}
 use Rattle.breaths.specs.Breaths.{BestBreaths}
 use Rattle.breaths.specs.declared.breath.Breath.{Breath}
 use Rattle.breaths.specs.declared.sums.Sums.{Sums}
-use Rattle.text.specs.Lines.{refusedLine, longestLine}
+use Rattle.text.specs.Lines.{numbered, refusedLine, longestLine}
 use Rattle.text.specs.Scan.{lengthBefore}
 use Rattle.recording.specs.Lines.{mostBytes}
 use Rattle.recording.specs.Reading.{aBreath, theEnd, nextOf, linesFrom, breathsOn}
 use Rattle.listing.specs.Nights.{withLine, isNight}
-use Rattle.listing.specs.Listing.{breathLine, allLine, listingOn, numbered}
+use Rattle.listing.specs.Listing.{breathLine, allLine, listingOn, ratiosOf}
 use Rattle.listing.specs.declared.night.Night.{Night}
 use Rattle.listing.specs.declared.piece.End.{End}
 use Rattle.listing.specs.declared.piece.End.the-variants.{Open, Closed, Refused, NoNight}
@@ -111,10 +111,10 @@ endText s (done false) = []
 endText s (done true) = allLine s
 endText s (stop number place) = []
 
--- A piece's text is the numbered lines of its breaths, and `all` at the end; the sums behind it are those before it and those of its breaths; and
+-- A piece's text is the numbered lines of its breaths' ratios, and `all` at the end; the sums behind it are those before it and those of its breaths; and
 -- the word of each breath that isn't void, and of all, is best for its N and D.
 pub record BestPiece (night : Night) (bs : List ℕ) (l : ListedPiece) : Type 0 where
-  pub lines : l .text ≡ numbered (night .breath) (breathsOf night bs l) ++ endText (l .night .sums) (endOutcome (l .end))
+  pub lines : l .text ≡ numbered (night .breath) (ratiosOf (breathsOf night bs l)) ++ endText (l .night .sums) (endOutcome (l .end))
   pub sums : l .night .sums ≡ addSums (night .sums) (sumsOf (breathsOf night bs l))
   pub each : BestBreaths (breathsOf night bs l)
   pub all : BestRatio (l .night .sums .inspiration) (l .night .sums .whole) (nightRatio (l .night .sums))

@@ -1,7 +1,8 @@
 // The listing of a whole recording.
 ghost use mathlib.Core.Path.{_≡_};
 ghost use Rattle.slash.specs.Answers.{answerOutcome};
-ghost use Rattle.listing.specs.Listing.{nightOutcome, lengthOf, listAfter, BestNight};
+ghost use Rattle.text.specs.Stores.{lengthOf, listAfter};
+ghost use Rattle.listing.specs.Listing.{nightOutcome, BestNight};
 use crate::night::Night;
 use crate::piece::put_lines;
 use recording::check;

@@ -1,9 +1,9 @@
 // Lists a recording in small pieces, and tells whether they make a listing.
 ghost use mathlib.Core.Path.{_≡_};
-ghost use mathlib.Core.Bool.{true};
-ghost use Prim.Native.Nat.{_+_, _≤_};
+ghost use Prim.Native.Nat.{_≤_};
 ghost use lib.ListN.{length};
 use crate::show;
+use crate::texts;
 use listing::End;
 use listing::Night;
 
@@ -22,19 +22,6 @@ fn next_end(end: usize, most: usize) -> usize
     }
 }
 
-// Whether a text stands in a listing from a place on.
-fn stands(text: &[u8], listing: &[u8], at: usize) -> bool
-    requires { ⌜ at ≤ length (now listing) ⌝ }
-    ensures { λ r. ⌜ (r ≡ true → at + length (now (text .entry)) ≤ length (now (listing .entry))) ⌝ }
-{
-    let n = text.len();
-    let rest = &listing[at..];
-    if rest.len() < n {
-        return false;
-    }
-    check::same(text, &rest[..n])
-}
-
 // Whether the pieces of a recording, one behind the other, are this listing of it.
 fn make(bytes: &[u8], listing: &[u8]) -> bool {
     // Room for two lines, so that it runs out too.
@@ -50,7 +37,7 @@ fn make(bytes: &[u8], listing: &[u8]) -> bool {
         let last = end == bytes.len();
         let piece = listing::list_piece(night, &bytes[from..end], last, &mut out);
         let length = piece.length;
-        if !stands(&out[..length], listing, at) {
+        if !texts::stands(&out[..length], listing, at) {
             return false;
         }
         at += length;
@@ -75,21 +62,6 @@ pub(crate) fn compare(bytes: &[u8], array: &[u8], length: usize) {
     }
 }
 
-// Copies a line to a place, where it has room, and answers the place behind it.
-fn copied(line: &[u8], out: &mut [u8], at: usize) -> usize
-    requires { ⌜ at ≤ length (now out) ⌝ }
-{
-    if out.len() - at < line.len() {
-        return at;
-    }
-    let mut i = 0;
-    while i < line.len() {
-        out[at + i] = line[i];
-        i += 1;
-    }
-    at + i
-}
-
 fn line_buffer() -> [u8; 50]
     ensures { λ r. ⌜ 50 ≡ length r ⌝ }
 {
@@ -105,7 +77,7 @@ fn put_stop(end: End, out: &mut [u8], at: usize) -> usize
     };
     let mut line = line_buffer();
     let n = text::refused_line(stop, &mut line);
-    copied(&line[..n], out, at)
+    texts::copied(&line[..n], out, at)
 }
 
 // Stores the pieces of a recording one behind the other, and the line of its stop, and answers how

@@ -1,8 +1,19 @@
-// A recipe for a recording: pieces parted by one space, each a count, a star and the bytes to
-// repeat, two hexadecimal digits a byte.
+// A line of the input, which asks for something of the bytes that a recipe makes:
+//   <recipe>                             the listing of a recording
+//   L<numbers>:<words>:<recipe>          a text loaded into lists of so many places
+//   M<voids>:<numbers>:<words>:<recipe>  so too, with the lines of so many void breaths before it
+//   P<recipe>                            the listing of words
+// A recipe is pieces parted by one space, each a count, a star and the bytes to repeat, two
+// hexadecimal digits a byte. No piece is the empty recipe.
+use crate::voids;
 
-// What the next byte of a line is: a digit of a count, the first or the second hexadecimal digit of
-// a byte, or part of a comment.
+// What is asked for, by its letter: a recording's listing has none, and both other letters load.
+pub(crate) const LIST: u8 = 0;
+
+pub(crate) const PRINT: u8 = b'P';
+
+// What the next byte of a line is: a digit of a count or of a number, the first or the second
+// hexadecimal digit of a byte, or part of a comment.
 pub(crate) const COUNT: u8 = 0;
 
 pub(crate) const FIRST: u8 = 1;
@@ -11,9 +22,14 @@ pub(crate) const SECOND: u8 = 2;
 
 pub(crate) const COMMENT: u8 = 3;
 
-// How often the piece that has begun is to stand, where it starts in the recording, where the
-// recording ends so far, and the first hexadecimal digit of a byte.
+// What is asked, the void breaths whose lines begin the bytes, and the places of the lists of numbers
+// and of words that a text is loaded into; then how often the piece that has begun is to stand, where
+// it starts among the bytes, where they end so far, and the first hexadecimal digit of a byte.
 pub(crate) struct Recipe {
+    pub(crate) asked: u8,
+    pub(crate) voids: usize,
+    pub(crate) numbers: usize,
+    pub(crate) words: usize,
     pub(crate) stage: u8,
     pub(crate) count: usize,
     pub(crate) start: usize,
@@ -23,6 +39,10 @@ pub(crate) struct Recipe {
 
 pub(crate) fn begun() -> Recipe {
     Recipe {
+        asked: LIST,
+        voids: 0,
+        numbers: 0,
+        words: 0,
         stage: COUNT,
         count: 0,
         start: 0,
@@ -37,6 +57,27 @@ pub(crate) fn comment() -> Recipe {
     r
 }
 
+// A recipe that begins with its letter.
+fn with_letter(letter: u8) -> Recipe {
+    let mut r = begun();
+    r.asked = letter;
+    r
+}
+
+// The recipe with a number ended by its colon. Each moves those before it up, so that the last one is
+// the places for words, whether two or three are there. The void breaths' lines go before the pieces.
+fn with_number(r: Recipe, bytes: &mut [u8]) -> Recipe {
+    let mut next = r;
+    next.voids = r.numbers;
+    next.numbers = r.words;
+    next.words = r.count;
+    next.count = 0;
+    let end = voids::put_lines(next.voids, bytes);
+    next.start = end;
+    next.end = end;
+    next
+}
+
 // The value of a digit, decimal or hexadecimal.
 fn digit(b: u8) -> u8 {
     if b < b'a' {
@@ -46,13 +87,11 @@ fn digit(b: u8) -> u8 {
     }
 }
 
-// The recipe with one byte more of its count or of its hexadecimal digits.
-pub(crate) fn continued(r: Recipe, b: u8, bytes: &mut [u8]) -> Recipe {
+// The recipe with one digit more of its count or of its bytes.
+fn with_digit(r: Recipe, b: u8, bytes: &mut [u8]) -> Recipe {
     let mut next = r;
-    if b == b'*' {
-        next.stage = FIRST;
-    } else if r.stage == COUNT {
-        // No count is above the recording's room.
+    if r.stage == COUNT {
+        // No count is above the bytes' room.
         next.count = r.count % 1000000 * 10 + digit(b) as usize;
     } else if r.stage == FIRST {
         next.high = digit(b);
@@ -103,11 +142,27 @@ fn copied(bytes: &mut [u8], place: usize, size: usize) -> usize {
 // The recipe with its piece ended.
 pub(crate) fn ended(r: Recipe, bytes: &mut [u8]) -> Recipe {
     let end = repeated(bytes, r.start, r.end, r.count);
-    Recipe {
-        stage: COUNT,
-        count: 0,
-        start: end,
-        end: end,
-        high: 0,
+    let mut next = r;
+    next.stage = COUNT;
+    next.count = 0;
+    next.start = end;
+    next.end = end;
+    next
+}
+
+// The recipe with one byte more of its line.
+pub(crate) fn continued(r: Recipe, b: u8, bytes: &mut [u8]) -> Recipe {
+    if b == b' ' {
+        ended(r, bytes)
+    } else if b == b':' {
+        with_number(r, bytes)
+    } else if b == b'*' {
+        let mut next = r;
+        next.stage = FIRST;
+        next
+    } else if b'A' <= b && b <= b'Z' {
+        with_letter(b)
+    } else {
+        with_digit(r, b, bytes)
     }
 }

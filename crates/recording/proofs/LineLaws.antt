@@ -16,8 +16,9 @@ use lib.Seq.{take-append-le, split-at, take-suc, take-all, getD-drop}
 use borrow.Author.Tests.{eq-eqb, ne-eqb, le-leb, lt-leb, le-ltb, lt-ltb, leb-true}
 use Rattle.convergents.specs.Choice.{if_then_else_}
 use Rattle.breaths.specs.Breaths.{span, breathOf}
-use Rattle.text.specs.Scan.{lengthBefore, isDigit, inFirst, lineFields}
-use Rattle.text.proofs.ScanLaws.{before-step, before-le, before-take, before-taken, before-far, before-append}
+use Rattle.text.specs.Scan.{lengthBefore, isDigit, parted}
+use Rattle.text.proofs.ScanLaws.{before-le, before-take, before-taken, before-far, before-append}
+use Rattle.text.proofs.PartLaws.{behind, parted-none, parted-some, parted-at}
 use Rattle.recording.specs.Lines.{digitsFrom, readTick, fromTicks, fromFields, readLine}
 use Rattle.recording.specs.Steps.{LeadingDigits}
 use Rattle.breaths.specs.declared.breath.Breath.{Breath}
@@ -220,93 +221,32 @@ module _ (used : ℕ) (onset peak next : Tick) where
 
 -- ---- fields
 
-pub fields-step : (x : ℕ) (xs : List ℕ) (t : Bool) → eqb x 9 ≡ t → lineFields (x ∷ xs) ≡ elim t [ true ↦ [] ∷ lineFields xs | false ↦ inFirst x (lineFields xs) ]
-unfolding lineFields
-fields-step x xs t e = ap (λ (y : Bool). elim y as (λ z. List (List ℕ)) [ true ↦ [] ∷ lineFields xs | false ↦ inFirst x (lineFields xs) ]) e
-
-fields-nil : lineFields [] ≡ [] ∷ []
-unfolding lineFields
-fields-nil = refl
-
--- with no tab the line is one field
-pub fields-whole : (bs : List ℕ) → lengthBefore 9 bs ≡ length bs → lineFields bs ≡ bs ∷ []
-fields-whole [] h = fields-nil
-fields-whole (x ∷ xs) h = go (eqb x 9) refl (fields-whole xs)
-  where
-    go : (t : Bool) → eqb x 9 ≡ t → (lengthBefore 9 xs ≡ length xs → lineFields xs ≡ xs ∷ []) → lineFields (x ∷ xs) ≡ (x ∷ xs) ∷ []
-    go true e ih = absurd (omega (arith, before-step 9 x xs true e))
-    go false e ih = fields-step x xs false e ∙ ap (inFirst x) (ih (omega (arith, before-step 9 x xs false e)))
-
--- else it is what stands before the first tab, and the fields of what stands behind it
-fields-cut : (bs : List ℕ) → lengthBefore 9 bs < length bs → lineFields bs ≡ take (lengthBefore 9 bs) bs ∷ lineFields (drop (suc (lengthBefore 9 bs)) bs)
-fields-cut [] h = absurd (omega arith)
-fields-cut (x ∷ xs) h = go (eqb x 9) refl (fields-cut xs)
-  where
-    go : (t : Bool) → eqb x 9 ≡ t
-        → (lengthBefore 9 xs < length xs → lineFields xs ≡ take (lengthBefore 9 xs) xs ∷ lineFields (drop (suc (lengthBefore 9 xs)) xs))
-        → lineFields (x ∷ xs) ≡ take (lengthBefore 9 (x ∷ xs)) (x ∷ xs) ∷ lineFields (drop (suc (lengthBefore 9 (x ∷ xs))) (x ∷ xs))
-    go true e ih = fields-step x xs true e ∙ rw (before-step 9 x xs true e) refl
-    go false e ih =
-        fields-step x xs false e ∙ ap (inFirst x) (ih (omega (arith, before-step 9 x xs false e))) ∙ rw (before-step 9 x xs false e) refl
-
-pub record Some (l : List (List ℕ)) : Type 0 where
-  pub first : List ℕ
-  pub others : List (List ℕ)
-  pub is : l ≡ first ∷ others
-
-in-first : (x : ℕ) (l : List (List ℕ)) → Some (inFirst x l)
-in-first x [] = record { first = x ∷ []; others = []; is = refl }
-in-first x (f ∷ o) = record { first = x ∷ f; others = o; is = refl }
-
-fields-some : (bs : List ℕ) → Some (lineFields bs)
-fields-some [] = record { first = []; others = []; is = fields-nil }
-fields-some (x ∷ xs) = go (eqb x 9) refl
-  where
-    go : (t : Bool) → eqb x 9 ≡ t → Some (lineFields (x ∷ xs))
-    go true e = record { first = []; others = lineFields xs; is = fields-step x xs true e }
-    go false e = subst Some (sym (fields-step x xs false e)) (in-first x (lineFields xs))
-
--- what stands behind place i, as code has it: a part of a list that runs to its end
-abbrev pub behind : ℕ → List ℕ → List ℕ
-behind i l = take (length l - (i + 1)) (drop (i + 1) l)
-
-pub tail-is : (n : ℕ) (l : List ℕ) → take (length l - n) (drop n l) ≡ drop n l
-tail-is n l = take-all (length l - n) (drop n l) (omega (arith, length-drop n l))
-
--- what stands before the first tab, and the fields of the rest
-cut : (line : List ℕ) (i : ℕ) → i ≡ lengthBefore 9 line → i < length line → lineFields line ≡ take i line ∷ lineFields (behind i line)
-cut line i ie l =
-    fields-cut line (omega arith)
-    ∙ ap (λ (k : ℕ). take k line ∷ lineFields (drop (suc k) line)) (sym ie)
-    ∙ ap (λ (k : ℕ). take i line ∷ lineFields (drop k line)) (sym (add-one i))
-    ∙ ap (λ (u : List ℕ). take i line ∷ lineFields u) (sym (tail-is (i + 1) line))
-
 module _ (used : ℕ) (line : List ℕ) (i : ℕ) (ie : i ≡ lengthBefore 9 line) where
-  pub fields-one : i ≡ length line → Refused 10 ≡ fromFields used (lineFields line)
+  pub fields-one : i ≡ length line → Refused 10 ≡ fromFields used (parted 9 line)
   unfolding fromFields
-  fields-one e = rw (fields-whole line (sym ie ∙ e)) refl
+  fields-one e = rw (parted-none 9 line (sym ie ∙ e)) refl
 
   module _ (l : i < length line) (j : ℕ) (je : j ≡ lengthBefore 9 (behind i line)) where
-    pub fields-two : j ≡ length (behind i line) → Refused 10 ≡ fromFields used (lineFields line)
+    pub fields-two : j ≡ length (behind i line) → Refused 10 ≡ fromFields used (parted 9 line)
     unfolding fromFields
-    fields-two e = rw (cut line i ie l, fields-whole (behind i line) (sym je ∙ e)) refl
+    fields-two e = rw (parted-at 9 line i ie (λ e. omega arith), parted-none 9 (behind i line) (sym je ∙ e)) refl
 
     module _ (m : j < length (behind i line)) (k : ℕ) (ke : k ≡ lengthBefore 9 (behind j (behind i line))) where
-      pub fields-four : k < length (behind j (behind i line)) → Refused 10 ≡ fromFields used (lineFields line)
+      pub fields-four : k < length (behind j (behind i line)) → Refused 10 ≡ fromFields used (parted 9 line)
       unfolding fromFields
       fields-four n =
           let last : List ℕ = behind j (behind i line) in
-          let s = fields-some (behind k last) in
-          rw (cut line i ie l, cut (behind i line) j je m, cut last k ke n, s .is) refl
+          let s = parted-some 9 (behind k last) in
+          rw (parted-at 9 line i ie (λ e. omega arith), parted-at 9 (behind i line) j je (λ e. omega arith), parted-at 9 last k ke (λ e. omega arith), s .is) refl
 
       pub fields-three : length (behind j (behind i line)) ≤ k → (x y z : Tick)
           → x ≡ readTick (take i line) → y ≡ readTick (take j (behind i line)) → z ≡ readTick (behind j (behind i line))
-          → (r : Line) → r ≡ fromTicks used x y z → r ≡ fromFields used (lineFields line)
+          → (r : Line) → r ≡ fromTicks used x y z → r ≡ fromFields used (parted 9 line)
       unfolding fromFields
       fields-three n x y z xe ye ze r e =
           let last : List ℕ = behind j (behind i line) in
           let whole : lengthBefore 9 last ≡ length last = omega (arith, before-le 9 last) in
-          e ∙ rw (xe, ye, ze, cut line i ie l, cut (behind i line) j je m, fields-whole last whole) refl
+          e ∙ rw (xe, ye, ze, parted-at 9 line i ie (λ e. omega arith), parted-at 9 (behind i line) j je (λ e. omega arith), parted-none 9 last whole) refl
 
 -- ---- a line
 
@@ -331,11 +271,11 @@ module _ (bs : List ℕ) (most : ℕ) (me : most ≡ min 33 (length bs)) where
         let h : length (take 33 bs) ≤ k = omega (arith, ap length head-is) in
         rw (place, le-leb _ _ h) refl
 
-    pub line-some : k < length (take most bs) → (r : Line) → r ≡ fromFields (k + 1) (lineFields (take k bs)) → r ≡ readLine bs
+    pub line-some : k < length (take most bs) → (r : Line) → r ≡ fromFields (k + 1) (parted 9 (take k bs)) → r ≡ readLine bs
     unfolding readLine
     line-some l r e =
         let h : k < length (take 33 bs) = omega (arith, ap length head-is) in
-        e ∙ ap (λ (n : ℕ). fromFields n (lineFields (take k bs))) (add-one k) ∙ rw (place, lt-leb _ _ h) refl
+        e ∙ ap (λ (n : ℕ). fromFields n (parted 9 (take k bs))) (add-one k) ∙ rw (place, lt-leb _ _ h) refl
 
 -- ---- what holds of every line that is read
 
@@ -374,7 +314,7 @@ module _ (bs : List ℕ) where
   line-nine h = rw (le-leb _ _ h) refl
 
   pub line-read : lengthBefore 10 (take 33 bs) < length (take 33 bs)
-      → fromFields (suc (lengthBefore 10 (take 33 bs))) (lineFields (take (lengthBefore 10 (take 33 bs)) bs)) ≡ readLine bs
+      → fromFields (suc (lengthBefore 10 (take 33 bs))) (parted 9 (take (lengthBefore 10 (take 33 bs)) bs)) ≡ readLine bs
   unfolding readLine
   line-read h = rw (lt-leb _ _ h) refl
 
@@ -388,7 +328,7 @@ module _ (bs : List ℕ) where
           let l : k < length (take 33 bs) = omega arith in
           let t = length-take 33 bs in
           let e : suc k ≡ suc (lengthBefore 10 bs) = ap suc (before-taken 10 33 bs l) in
-          subst (Sound bs) (line-read l) (fields-sound bs (suc k) e (omega (arith, l, t)) (omega (arith, l, t)) (lineFields (take k bs)))
+          subst (Sound bs) (line-read l) (fields-sound bs (suc k) e (omega (arith, l, t)) (omega (arith, l, t)) (parted 9 (take k bs)))
 
 -- ---- the paper's words for stop 9
 
@@ -397,12 +337,12 @@ module _ (bs : List ℕ) where
   K = lengthBefore 10 bs
 
   -- A line is stopped with 9 where over 32 bytes stand before its line feed, or there is none.
-  pub line-words : readLine bs ≡ (if eqb K (length bs) || ltb 32 K then Refused 9 else fromFields (suc K) (lineFields (take K bs)))
+  pub line-words : readLine bs ≡ (if eqb K (length bs) || ltb 32 K then Refused 9 else fromFields (suc K) (parted 9 (take K bs)))
   unfolding readLine
   line-words = go (decLe 33 K) (ℕ-discrete K (length bs))
     where
       go : Dec (33 ≤ K) → Dec (K ≡ length bs)
-          → readLine bs ≡ (if eqb K (length bs) || ltb 32 K then Refused 9 else fromFields (suc K) (lineFields (take K bs)))
+          → readLine bs ≡ (if eqb K (length bs) || ltb 32 K then Refused 9 else fromFields (suc K) (parted 9 (take K bs)))
       go (yes l) e =
           let i : length (take 33 bs) ≤ lengthBefore 10 (take 33 bs) = omega (arith, before-far 10 33 bs l, length-take 33 bs) in
           rw (le-leb _ _ i, lt-ltb 32 K l, or-true) refl
@@ -423,7 +363,7 @@ ended-line bs more l =
     let far : lengthBefore 10 bs ≡ length (bs ++ more) → ⊥ = λ e. omega (arith, length-append bs more) in
     let near : lengthBefore 10 bs ≡ length bs → ⊥ = λ e. omega arith in
     let same : take (lengthBefore 10 bs) (bs ++ more) ≡ take (lengthBefore 10 bs) bs = take-append-le (lengthBefore 10 bs) bs more (omega arith) in
-    let line : Line = if ltb 32 (lengthBefore 10 bs) then Refused 9 else fromFields (suc (lengthBefore 10 bs)) (lineFields (take (lengthBefore 10 bs) bs)) in
+    let line : Line = if ltb 32 (lengthBefore 10 bs) then Refused 9 else fromFields (suc (lengthBefore 10 bs)) (parted 9 (take (lengthBefore 10 bs) bs)) in
     let there : readLine (bs ++ more) ≡ line = rw (line-words (bs ++ more), k, ne-eqb _ _ far, same) refl in
     let here : readLine bs ≡ line = rw (line-words bs, ne-eqb _ _ near) refl in
     there ∙ sym here

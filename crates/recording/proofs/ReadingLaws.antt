@@ -1,6 +1,7 @@
 -- A recording line by line. Assumes nothing.
 -- `next-follows`: what comes next is a breath's whole line, the end, or one of the recording's stops at that line. `next-ready`: what follows a
--- whole line doesn't change it. `breaths-steps`, `check-steps`: no line behind 65,537 is read.
+-- whole line doesn't change it. `breaths-steps`, `check-steps`: no line behind 65,537 is read. `breaths-some`,
+-- `breaths-most`: a recording that doesn't stop has from 1 to 65,536 breaths.
 use mathlib.Core.Path.{_≡_, refl, sym, ap, _∙_, subst}
 use mathlib.Core.Logic.{_⊎_, inl, inr}
 use mathlib.Core.List.{List, [], _∷_, _++_}
@@ -16,20 +17,22 @@ use borrow.Author.Tests.{lt-ltb, le-ltb, eq-eqb, ne-eqb}
 use Rattle.convergents.specs.Choice.{if_then_else_}
 use Rattle.slash.specs.Answers.{Outcome, stop, done, _then_}
 use Rattle.slash.specs.declared.answer.Stop.{Stop}
+use Rattle.slash.proofs.AnswerLaws.{no-stop}
 use Rattle.breaths.specs.declared.breath.Breath.{Breath}
 use Rattle.text.specs.Scan.{lengthBefore}
 use Rattle.text.proofs.ScanLaws.{before-le, before-take}
+use Rattle.text.proofs.PartLaws.{tail-is}
 use Rattle.recording.specs.Lines.{readLine}
 use Rattle.recording.specs.Steps.{LineLength, nextLength}
 use Rattle.recording.specs.declared.reading.Length.{Length}
 use Rattle.recording.specs.declared.reading.Length.the-variants as Length
-use Rattle.recording.specs.Reading.{Coming, aBreath, theEnd, nextOutcome, closing, fromLine, nextOf, breathsFrom, checkFrom, recordingCheck}
+use Rattle.recording.specs.Reading.{Coming, aBreath, theEnd, nextOutcome, closing, fromLine, nextOf, breathsFrom, checkFrom, breathsOn, breathsIn, recordingCheck}
 use Rattle.recording.specs.declared.line.Entry.{Entry}
 use Rattle.recording.specs.declared.line.Line.{Line}
 use Rattle.recording.specs.declared.line.Line.the-variants as Line
 use Rattle.recording.specs.declared.reading.Next.{Next}
 use Rattle.recording.specs.declared.reading.Next.the-variants as Next
-use Rattle.recording.proofs.LineLaws.{Whole, Sound, line-sound, ended-line, tail-is}
+use Rattle.recording.proofs.LineLaws.{Whole, Sound, line-sound, ended-line}
 
 -- ---- what comes next
 
@@ -227,6 +230,46 @@ check-steps (suc steps) more line bs e few = ap (λ (k : ℕ). checkFrom k line 
         check-more (steps + more) line bs entry n ∙ ih (drop (entry .used) bs) (omega arith) (omega (arith, w .0)) ∙ sym (check-more steps line bs entry n)
     go (done theEnd) n ih = check-end (steps + more) line bs n ∙ sym (check-end steps line bs n)
     go (stop number place) n ih = check-stop (steps + more) line bs n ∙ sym (check-stop steps line bs n)
+
+-- A recording has at most 65,536 breaths,
+pub breaths-few : (steps line : ℕ) (bs : List ℕ) → line + steps ≡ 65538 → line ≤ 65537 → line + length (breathsFrom steps line bs) ≤ 65537
+breaths-few zero line bs e few = absurd (omega arith)
+breaths-few (suc steps) line bs e few = go (nextOf line bs) refl (breaths-few steps (suc line))
+  where
+    go : (x : Outcome Coming) → nextOf line bs ≡ x
+        → ((rest : List ℕ) → suc line + steps ≡ 65538 → suc line ≤ 65537 → suc line + length (breathsFrom steps (suc line) rest) ≤ 65537)
+        → line + length (breathsFrom (suc steps) line bs) ≤ 65537
+    go (done (aBreath entry)) n ih =
+        let w = follows-breath line bs entry n in
+        omega (arith, ap length (breaths-more steps line bs entry n), ih (drop (entry .used) bs) (omega arith) (omega (arith, w .0)))
+    go (done theEnd) n ih = omega (arith, ap length (breaths-end steps line bs n))
+    go (stop number place) n ih = omega (arith, ap length (breaths-stop steps line bs n))
+
+-- and one that doesn't stop at least 1.
+no-end : (bs : List ℕ) → nextOf 1 bs ≡ done theEnd → ⊥
+unfolding nextOf closing fromLine
+no-end [] e = no-stop e
+no-end (b ∷ bs) e = go (readLine (b ∷ bs)) e
+  where
+    breath-end : {entry : Entry} → done (aBreath entry) ≡ done theEnd → ⊥
+    breath-end q = let z : _≡_ {A = ℕ} 0 1 = cc in omega arith
+
+    go : (l : Line) → fromLine 1 l ≡ done theEnd → ⊥
+    go (Line.Read entry) q = breath-end q
+    go (Line.Refused number) q = no-stop q
+
+pub breaths-some : (bs : List ℕ) → recordingCheck bs ≡ done tt → 1 ≤ length (breathsIn bs)
+unfolding recordingCheck breathsIn breathsOn
+breaths-some bs h = go (nextOf 1 bs) refl
+  where
+    go : (x : Outcome Coming) → nextOf 1 bs ≡ x → 1 ≤ length (breathsFrom 65537 1 bs)
+    go (done (aBreath entry)) n = omega (arith, ap length (breaths-more 65536 1 bs entry n))
+    go (done theEnd) n = absurd (no-end bs n)
+    go (stop number place) n = absurd (no-stop (sym (check-stop 65536 1 bs n) ∙ h))
+
+pub breaths-most : (bs : List ℕ) → length (breathsIn bs) ≤ 65536
+unfolding breathsIn breathsOn
+breaths-most bs = omega (arith, breaths-few 65537 1 bs (omega arith) (omega arith))
 
 -- of no bytes there are no breaths
 pub breaths-none : (steps line : ℕ) → breathsFrom steps line [] ≡ []

@@ -13,7 +13,7 @@ use lib.ListN.{length, getD, take, drop, length-append, length-take, length-drop
 use lib.Seq.{length-take-le, split-at, take-at, drop-at, drop-drop, getD-take, getD-drop}
 use borrow.Author.Tests.{ne-eqb}
 use Rattle.breaths.specs.Breaths.{breathOf}
-use Rattle.text.specs.Scan.{isDigit, inFirst, lineFields, lengthBefore}
+use Rattle.text.specs.Scan.{isDigit, inFirst, parted, lengthBefore}
 use Rattle.recording.specs.Lines.{digitsFrom, fromTicks, fromFields, readLine}
 use Rattle.recording.specs.Steps.{LeadingDigits, TickAt, BreathFound, DigitsEnd, TickEnd, LineLength}
 use Rattle.breaths.specs.declared.breath.Breath.{Breath}
@@ -23,7 +23,8 @@ use Rattle.recording.specs.declared.line.Line.the-variants.{Read}
 use Rattle.recording.specs.declared.line.Pass.{Pass}
 use Rattle.recording.specs.declared.line.Pass.the-variants as Pass
 use Rattle.text.proofs.ScanLaws.{before-step, before-le, before-take}
-use Rattle.recording.proofs.LineLaws.{Leading, leading-start, leading-end, leading-low, leading-high, leading-next, digits-step, no-tick, digit-bounds, tick-digits, leading-tick, fields-step, fields-whole, line-read}
+use Rattle.text.proofs.PartLaws.{parted-step, parted-none}
+use Rattle.recording.proofs.LineLaws.{Leading, leading-start, leading-end, leading-low, leading-high, leading-next, digits-step, no-tick, digit-bounds, tick-digits, leading-tick, line-read}
 
 -- ---- a tick mark and the byte that ends it
 
@@ -77,21 +78,21 @@ module _ (b : ℕ) (low : b < 48) where
           let other : x ≡ b → ⊥ = λ z. omega (arith, digit-bounds x _ f .0) in
           omega (arith, before-step b x (xs ++ r) false (ne-eqb x b other), ih (sym (digits-step v x xs true f) ∙ e) r)
 
-fields-digits : (v : ℕ) (f : List ℕ) (t : ℕ) → digitsFrom v f ≡ Good t → (r : List ℕ) → lineFields (f ++ (9 ∷ r)) ≡ f ∷ lineFields r
-fields-digits v [] t e r = fields-step 9 r true refl
+fields-digits : (v : ℕ) (f : List ℕ) (t : ℕ) → digitsFrom v f ≡ Good t → (r : List ℕ) → parted 9 (f ++ (9 ∷ r)) ≡ f ∷ parted 9 r
+fields-digits v [] t e r = parted-step 9 9 r true refl
 fields-digits v (x ∷ xs) t e r = go (isDigit x && leb (v * 10 + (x - 48)) 4294967295) refl (fields-digits (v * 10 + (x - 48)) xs t)
   where
     go : (s : Bool) → (isDigit x && leb (v * 10 + (x - 48)) 4294967295) ≡ s
-        → (digitsFrom (v * 10 + (x - 48)) xs ≡ Good t → (r : List ℕ) → lineFields (xs ++ (9 ∷ r)) ≡ xs ∷ lineFields r)
-        → lineFields (x ∷ (xs ++ (9 ∷ r))) ≡ (x ∷ xs) ∷ lineFields r
+        → (digitsFrom (v * 10 + (x - 48)) xs ≡ Good t → (r : List ℕ) → parted 9 (xs ++ (9 ∷ r)) ≡ xs ∷ parted 9 r)
+        → parted 9 (x ∷ (xs ++ (9 ∷ r))) ≡ (x ∷ xs) ∷ parted 9 r
     go false f ih = absurd (no-tick t (sym (digits-step v x xs false f) ∙ e))
     go true f ih =
         let other : x ≡ 9 → ⊥ = λ z. omega (arith, digit-bounds x _ f .0) in
-        fields-step x (xs ++ (9 ∷ r)) false (ne-eqb x 9 other) ∙ ap (inFirst x) (ih (sym (digits-step v x xs true f) ∙ e) r)
+        parted-step 9 x (xs ++ (9 ∷ r)) false (ne-eqb x 9 other) ∙ ap (inFirst x) (ih (sym (digits-step v x xs true f) ∙ e) r)
 
-fields-last : (f : List ℕ) (t : ℕ) → digitsFrom 0 f ≡ Good t → lineFields f ≡ f ∷ []
+fields-last : (f : List ℕ) (t : ℕ) → digitsFrom 0 f ≡ Good t → parted 9 f ≡ f ∷ []
 fields-last f t e =
-    fields-whole f (omega (arith, before-digits 9 (omega arith) 0 f t e [], ap (lengthBefore 9) (append-nil f), before-le 9 []))
+    parted-none 9 f (omega (arith, before-digits 9 (omega arith) 0 f t e [], ap (lengthBefore 9) (append-nil f), before-le 9 []))
 
 -- ---- three tick marks
 
@@ -143,7 +144,7 @@ module _ {bs : List ℕ} {o p n i j k : ℕ} (x : TickAt bs 0 9 o i) (y : TickAt
         line-length,
       )
 
-  three-fields : lineFields line ≡ x .field ∷ y .field ∷ z .field ∷ []
+  three-fields : parted 9 line ≡ x .field ∷ y .field ∷ z .field ∷ []
   three-fields =
       fields-digits 0 (x .field) o (x .digits) (y .field ++ (9 ∷ z .field))
       ∙ ap (λ (l : List (List ℕ)). x .field ∷ l)
@@ -162,8 +163,8 @@ module _ {bs : List ℕ} {o p n i j k : ℕ} (x : TickAt bs 0 9 o i) (y : TickAt
       let taken : take (length line) bs ≡ line = ap (take (length line)) as-line ∙ take-at line (10 ∷ z .rest) (length line) refl in
       sym (
       sym (line-read bs within)
-      ∙ ap (λ (m : ℕ). fromFields (suc m) (lineFields (take m bs))) few
-      ∙ ap (λ (l : List ℕ). fromFields (suc (length line)) (lineFields l)) taken
+      ∙ ap (λ (m : ℕ). fromFields (suc m) (parted 9 (take m bs))) few
+      ∙ ap (λ (l : List ℕ). fromFields (suc (length line)) (parted 9 l)) taken
       ∙ ap (fromFields (suc (length line))) three-fields
       ∙ ticks (suc (length line))
       ∙ ap (λ (u : ℕ). Read (record { breath = breathOf o p n; used = u })) (sym line-length)

@@ -6,7 +6,7 @@ use lib.Dec.{eqb, leb, ltb}
 use lib.ListN.{length, take}
 use Rattle.convergents.specs.Choice.{if_then_else_}
 use Rattle.breaths.specs.Breaths.{mostTicks, breathOf}
-use Rattle.text.specs.Scan.{lengthBefore, isDigit, lineFields}
+use Rattle.text.specs.Scan.{lengthBefore, isDigit, parted}
 use Rattle.recording.specs.declared.line.Tick.{Tick}
 use Rattle.recording.specs.declared.line.Tick.the-variants.{Good, Wrong}
 use Rattle.recording.specs.declared.line.Line.{Line}
@@ -51,4 +51,4 @@ mostBytes = 32
 unfoldable pub readLine : List ℕ → Line
 readLine bs =
     let before : ℕ = lengthBefore 10 (take (suc mostBytes) bs) in
-    if leb (length (take (suc mostBytes) bs)) before then Refused 9 else fromFields (suc before) (lineFields (take before bs))
+    if leb (length (take (suc mostBytes) bs)) before then Refused 9 else fromFields (suc before) (parted 9 (take before bs))

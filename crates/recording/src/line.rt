@@ -2,7 +2,7 @@
 ghost use mathlib.Core.Path.{_≡_};
 ghost use Prim.Native.Nat.{_+_, _≤_, min};
 ghost use lib.ListN.{length};
-ghost use Rattle.text.specs.Scan.{lineFields};
+ghost use Rattle.text.specs.Scan.{parted};
 ghost use Rattle.recording.specs.Lines.{digitsFrom, readTick, fromTicks, fromFields, readLine};
 ghost use Rattle.recording.specs.Steps.{LeadingDigits, TickFound, BreathFound};
 use crate::stop;
@@ -125,7 +125,7 @@ fn from_ticks(used: usize, onset: Tick, peak: Tick, next: Tick) -> Line
 
 // What the line says, its line feed taken away, that used so many bytes.
 fn read_fields(used: usize, line: &[u8]) -> Line
-    ensures { λ r. ⌜ r ≡ fromFields used (lineFields (now (line .entry))) ⌝ }
+    ensures { λ r. ⌜ r ≡ fromFields used (parted 9 (now (line .entry))) ⌝ }
 {
     let i = length_before(line, b'\t');
     if i == line.len() {

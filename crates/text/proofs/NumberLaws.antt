@@ -1,9 +1,9 @@
 -- Storing text, and the digits of a number. Assumes nothing.
 -- `chain`: one text stored behind another is both stored. `putting-end`: what the loop over a text comes to. `decimal-hundreds`, `hex-bytes`: a
--- number's digits two at a time. `decimal-length`, `hexadecimal-length`: how long they are.
+-- number's digits two at a time. `decimal-length`, `hexadecimal-length`: how long they are. `rest-as-it-was`: an example.
 use mathlib.Core.Path.{_≡_, refl, sym, ap, _∙_, subst}
 use mathlib.Core.List.{List, [], _∷_, _++_, append-assoc}
-use Prim.Native.Nat.{ℕ, zero, suc, _+_, _-_, _/_, _%_, _^_, _≤_, _<_}
+use Prim.Native.Nat.{ℕ, zero, suc, _+_, _/_, _%_, _^_, _≤_, _<_}
 use native.Mathlib.Omega.{arith}
 use native.Mathlib.Nat.{add-zero, zero-add, add-suc, suc-add, le-of-suc-le-suc, pow-suc}
 use native.Mathlib.Numerals.{add-one}
@@ -14,8 +14,16 @@ use lib.ListN.{set, length, getD, drop, length-set, length-append}
 use lib.Seq.{sets-eq, length-sets, drop-cons, drop-length}
 use borrow.Author.Tests.{lt-ltb, le-ltb, eqb-true}
 use Rattle.text.specs.Numbers.{decimalFrom, decimal, hexDigit, hexadecimal}
-use Rattle.text.specs.Stores.{put, Stored}
+use Rattle.slash.specs.Answers.{stop, done}
+use Rattle.text.specs.Stores.{put, listAfter, Stored}
 use Rattle.text.specs.Steps.{Room, twoDigits}
+
+-- ---- an example
+
+-- A text of one byte in a list of two, and a stop: the rest is as it was.
+pub rest-as-it-was : (listAfter (done (1 ∷ [])) (8 ∷ 9 ∷ []) ≡ 1 ∷ 9 ∷ []) × (listAfter (stop 15 1) (8 ∷ 9 ∷ []) ≡ 8 ∷ 9 ∷ [])
+unfolding listAfter
+rest-as-it-was = (refl, refl)
 
 -- ---- storing, wherever the place: what runs past the end is dropped on both sides
 

@@ -13,7 +13,7 @@ use borrow.Author.Tests.{eq-eqb, ne-eqb}
 use Rattle.text.specs.Scan.{lengthBefore}
 
 -- past the end nothing is left
-drop-past : (bs : List ℕ) (i : ℕ) → i ≡ length bs → drop i bs ≡ []
+pub drop-past : (bs : List ℕ) (i : ℕ) → i ≡ length bs → drop i bs ≡ []
 drop-past bs i e = ap (λ (j : ℕ). drop j bs) e ∙ drop-length bs
 
 module _ (b : ℕ) where
@@ -21,7 +21,7 @@ module _ (b : ℕ) where
   unfolding lengthBefore
   before-step x xs t e = ap (λ (y : Bool). elim y as (λ z. ℕ) [ true ↦ 0 | false ↦ suc (lengthBefore b xs) ]) e
 
-  before-nil : lengthBefore b [] ≡ 0
+  pub before-nil : lengthBefore b [] ≡ 0
   unfolding lengthBefore
   before-nil = refl
 

@@ -1,5 +1,5 @@
 -- The lines of a listing.
-use Prim.Native.Nat.{ℕ, _^_}
+use Prim.Native.Nat.{ℕ, suc, _^_}
 use mathlib.Core.Bool.{Bool, true, _&&_}
 use mathlib.Core.List.{List, [], _∷_, _++_}
 use lib.Dec.{leb, ltb}
@@ -22,6 +22,11 @@ nameText All = 97 ∷ 108 ∷ 108 ∷ []
 -- A line: its name, and the columns of its ratio, tab-parted and ended by a line feed.
 unfoldable pub lineOf : Name → Ratio → List ℕ
 lineOf name r = nameText name ++ tab ++ columns r ++ lineFeed
+
+-- The lines of some ratios, numbered from a number on.
+unfoldable pub numbered : (number : ℕ) → List Ratio → List ℕ
+numbered number [] = []
+numbered number (r ∷ rs) = lineOf (Number number) r ++ numbered (suc number) rs
 
 -- `refused`, the stop's number and the line. (The bytes of `refused` and of a tab.)
 unfoldable pub refusedLine : (stop line : ℕ) → List ℕ

@@ -1,4 +1,4 @@
--- Text taken apart: digits, fields, where a byte stands.
+-- Text taken apart: digits, parts, where a byte stands.
 use Prim.Native.Nat.{ℕ, suc}
 use mathlib.Core.Bool.{Bool, true, false, _&&_}
 use mathlib.Core.List.{List, [], _∷_}
@@ -13,12 +13,19 @@ unfoldable pub lengthBefore : (b : ℕ) → List ℕ → ℕ
 lengthBefore b [] = 0
 lengthBefore b (x ∷ xs) = elim (eqb x b) [ true ↦ 0 | false ↦ suc (lengthBefore b xs) ]
 
--- A byte put in front of the first of some fields.
+-- Two texts are the same, byte for byte.
+unfoldable pub same : List ℕ → List ℕ → Bool
+same [] [] = true
+same [] (y ∷ ys) = false
+same (x ∷ xs) [] = false
+same (x ∷ xs) (y ∷ ys) = eqb x y && same xs ys
+
+-- A byte put in front of the first of some parts.
 abbrev pub inFirst : ℕ → List (List ℕ) → List (List ℕ)
 inFirst x [] = (x ∷ []) ∷ []
 inFirst x (first ∷ others) = (x ∷ first) ∷ others
 
--- The fields of a line, parted by tabs (byte 9).
-unfoldable pub lineFields : List ℕ → List (List ℕ)
-lineFields [] = [] ∷ []
-lineFields (x ∷ xs) = elim (eqb x 9) [ true ↦ [] ∷ lineFields xs | false ↦ inFirst x (lineFields xs) ]
+-- The parts of a text, parted by the byte b: the fields of a line by its tabs, the lines of a text by its line feeds.
+unfoldable pub parted : (b : ℕ) → List ℕ → List (List ℕ)
+parted b [] = [] ∷ []
+parted b (x ∷ xs) = elim (eqb x b) [ true ↦ [] ∷ parted b xs | false ↦ inFirst x (parted b xs) ]

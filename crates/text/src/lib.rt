@@ -9,4 +9,5 @@ pub use line::MOST_BREATHS;
 pub use line::Name;
 pub use line::put_line;
 pub use line::refused_line;
+pub use scan::is_same;
 pub use scan::length_before;

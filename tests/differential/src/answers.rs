@@ -1,5 +1,6 @@
 //! Answers the request lines of the second program, or with `night` its recipes, from standard input.
 
+use differential::load;
 use differential::night;
 use differential::paper::{self, Answer, Format, Number, Size, Stop};
 use std::cmp::Ordering;
@@ -215,24 +216,95 @@ const LONGEST_SHOWN: usize = 2000;
 const END_SHOWN: usize = 64;
 
 fn recipe_answer(line: &str) -> Vec<u8> {
-    if line.starts_with('#') {
-        return line.as_bytes().to_vec();
+    match line.as_bytes().first() {
+        Some(b'#') => line.as_bytes().to_vec(),
+        Some(b'L') => loading_answer(&format!("0:{}", &line[1..])),
+        Some(b'M') => loading_answer(&line[1..]),
+        Some(b'P') => printing_answer(&line[1..]),
+        _ => shown(night::printed(&made(line))),
     }
-    let recording: Vec<u8> = line
-        .split(' ')
-        .filter(|piece| !piece.is_empty())
-        .flat_map(piece)
-        .collect();
-    let listing = night::printed(&recording);
+}
+
+/// The bytes that a recipe makes.
+fn made(recipe: &str) -> Vec<u8> {
+    let pieces = recipe.split(' ').filter(|piece| !piece.is_empty());
+    pieces.flat_map(piece).collect()
+}
+
+/// A listing itself, or its length, its checksum and its end where it is long.
+fn shown(listing: Vec<u8>) -> Vec<u8> {
     if listing.len() <= LONGEST_SHOWN {
         return listing;
     }
-    let checksum = listing.iter().fold(0u32, |h, &byte| {
-        h.wrapping_mul(31).wrapping_add(byte.into())
-    });
-    let mut shown = format!("{} {checksum}\n", listing.len()).into_bytes();
+    let sum = checksum(listing.iter().map(|&byte| byte.into()));
+    let mut shown = format!("{} {sum}\n", listing.len()).into_bytes();
     shown.extend(&listing[listing.len() - END_SHOWN..]);
     shown
+}
+
+fn checksum(places: impl Iterator<Item = u64>) -> u32 {
+    places.fold(0u32, |h, place| {
+        h.wrapping_mul(31).wrapping_add(place as u32)
+    })
+}
+
+fn stopped_text(stop: Stop) -> String {
+    format!("stop {} {}\n", stop.number, stop.place)
+}
+
+// Listings read back.
+
+const LONGEST_LIST_SHOWN: usize = 12;
+
+/// Of a number of void breaths, the lengths of both lists and the recipe of what follows: what loading
+/// answers, and the lists behind it.
+fn loading_answer(asked: &str) -> Vec<u8> {
+    let mut parts = asked.splitn(4, ':');
+    let mut number = || -> usize {
+        parts
+            .next()
+            .and_then(|part| part.parse().ok())
+            .expect("a number")
+    };
+    let (voids, p, q) = (number(), number(), number());
+    let mut text: Vec<u8> = (1..=voids)
+        .flat_map(|breath| night::line(&breath.to_string(), night::VOID).into_bytes())
+        .collect();
+    text.extend(made(parts.next().expect("a recipe")));
+    let mut numbers: Vec<u64> = (1000000..).take(p).collect();
+    let mut words: Vec<u64> = (2000000..).take(q).collect();
+    let told = match load::load(&text, &mut numbers, &mut words) {
+        Ok((count, total)) => format!("done {count} {total}\n"),
+        Err(stop) => stopped_text(stop),
+    };
+    format!("{told}{}\n{}\n", list_text(&numbers), list_text(&words)).into_bytes()
+}
+
+fn list_text(list: &[u64]) -> String {
+    if list.len() <= LONGEST_LIST_SHOWN {
+        return joined(list.iter().map(u64::to_string));
+    }
+    format!("{} {}", list.len(), checksum(list.iter().copied()))
+}
+
+// Words printed.
+
+/// Words of eight bytes each, the highest first, and the last of them the total's: their listing, or the
+/// stop that reading would have at the first line that no listing has.
+fn printing_answer(recipe: &str) -> Vec<u8> {
+    let bytes = made(recipe);
+    let all: Vec<u64> = bytes
+        .chunks(8)
+        .map(|word| {
+            word.iter()
+                .fold(0, |value, &byte| value << 8 | u64::from(byte))
+        })
+        .collect();
+    let (&total, words) = all.split_last().expect("a total");
+    match load::print_stop(words, total) {
+        Some(stop) => stopped_text(stop).into_bytes(),
+        None => shown(load::printed(words, total)),
+    }
 }
 
 fn piece(text: &str) -> Vec<u8> {

@@ -1,4 +1,5 @@
-//! Slash arithmetic and the listing of a night, written from the papers alone.
+//! Slash arithmetic, the listing of a night and its reading back, written from the papers alone.
 
+pub mod load;
 pub mod night;
 pub mod paper;

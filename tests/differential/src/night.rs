@@ -1,6 +1,6 @@
 //! The listing of a night's recording, from documents 00 and 01 and CR 1 of 02 alone.
 
-use crate::paper::{self, Answer, Stop};
+use crate::paper::{self, Answer, Format, Pair, Stop};
 use std::cmp::Ordering;
 
 const MOST_LINES: usize = 65536;
@@ -82,28 +82,46 @@ fn is_void(inward: u64, whole: u64) -> bool {
 /// A listed line.
 fn row(name: &str, inward: u64, whole: u64) -> String {
     if is_void(inward, whole) {
-        return format!("{name}\t00000000\t-\t-\n");
+        return line(name, VOID);
     }
-    let stored = paper::format(1, 15).expect("a format");
-    let size = paper::Size::Finite((inward as u128, whole as u128));
     let number = paper::Number {
         negative: false,
         marked: false,
-        size,
+        size: paper::Size::Finite((inward as u128, whole as u128)),
     };
-    let word = paper::write(stored, number).expect("a word");
+    line(name, paper::write(stored(), number).expect("a word"))
+}
+
+/// The word of a void breath, and of a void total.
+pub const VOID: u64 = 0;
+
+/// The format of the words that are listed.
+pub fn stored() -> Format {
+    paper::format(1, 15).expect("a format")
+}
+
+/// The listed line of a word, one from 0 to 1 or void.
+pub fn line(name: &str, word: u64) -> String {
+    if word == VOID {
+        return format!("{name}\t00000000\t-\t-\n");
+    }
     let Ok(paper::Number {
-        size: paper::Size::Finite((n, d)),
+        size: paper::Size::Finite(pair),
         ..
-    }) = paper::read(stored, word)
+    }) = paper::read(stored(), word)
     else {
         unreachable!("a ratio of at most 1 is finite")
     };
+    let (fraction, percentage) = shares(pair);
+    format!("{name}\t{word:08x}\t{fraction}\t{percentage}\n")
+}
+
+/// A fraction as it is listed, and its percentage.
+pub fn shares((n, d): Pair) -> (String, String) {
     let tenths = tenths(n, d);
-    format!(
-        "{name}\t{word:08x}\t{n}/{d}\t{}.{}\n",
-        tenths / 10,
-        tenths % 10
+    (
+        format!("{n}/{d}"),
+        format!("{}.{}", tenths / 10, tenths % 10),
     )
 }
 

@@ -6,16 +6,22 @@ use Rattle.night_cases.proofs.main.Statement.{statement}
 use Rattle.night_cases.proofs.main.Tie as tie
 
 abbrev Inv-loop : tie.InvT-loop
-Inv-loop byte₀ bytes₀ listing₀ r₀ left₀ byte bytes listing r left = (1 ≡ length byte) × (2300000 ≡ length bytes)
+Inv-loop byte₀ bytes₀ listing₀ numbers₀ words₀ r₀ left₀ byte bytes listing numbers words r left = (1 ≡ length byte) × (2300000 ≡ length bytes) × (65540 ≡ length numbers) × (65540 ≡ length words)
 
 abbrev μ-loop : tie.MeasureT-loop
-μ-loop byte₀ bytes₀ listing₀ r₀ left₀ byte bytes listing r left = left
+μ-loop byte₀ bytes₀ listing₀ numbers₀ words₀ r₀ left₀ byte bytes listing numbers words r left = left
 
 recording-buffer-requires : tie.Need-recording-buffer-requires Inv-loop μ-loop
 recording-buffer-requires c κs = search needs
 
 listing-buffer-requires : tie.Need-listing-buffer-requires Inv-loop μ-loop
 listing-buffer-requires c κs = search needs
+
+list-buffer-requires : tie.Need-list-buffer-requires Inv-loop μ-loop
+list-buffer-requires c κs = search needs
+
+list-buffer-requires-2 : tie.Need-list-buffer-requires-2 Inv-loop μ-loop
+list-buffer-requires-2 c κs = search needs
 
 begun-requires : tie.Need-begun-requires Inv-loop μ-loop
 begun-requires c κs = search needs
@@ -37,6 +43,12 @@ array-read-fed c = search needs
 
 slice-aggregate-fed : tie.Need-slice-aggregate-fed Inv-loop μ-loop
 slice-aggregate-fed c = search needs
+
+slice-aggregate-fed-2 : tie.Need-slice-aggregate-fed-2 Inv-loop μ-loop
+slice-aggregate-fed-2 c = search needs
+
+slice-aggregate-fed-3 : tie.Need-slice-aggregate-fed-3 Inv-loop μ-loop
+slice-aggregate-fed-3 c = search needs
 
 fed-requires : tie.Need-fed-requires Inv-loop μ-loop
 fed-requires c κs = search needs
@@ -61,6 +73,8 @@ main-spec =
     μ-loop
     recording-buffer-requires
     listing-buffer-requires
+    list-buffer-requires
+    list-buffer-requires-2
     begun-requires
     loop-holds
     slice-aggregate-read-full
@@ -68,6 +82,8 @@ main-spec =
     returns
     array-read-fed
     slice-aggregate-fed
+    slice-aggregate-fed-2
+    slice-aggregate-fed-3
     fed-requires
     sub-left
     loop-less

@@ -155,3 +155,28 @@ pub unsafe extern "C" fn slash_night(
     let listing = from_raw_parts_mut(listing, hand::night::LISTING_BYTES);
     store(hand::night::night(recording, listing), length)
 }
+
+#[cfg_attr(not(feature = "unnamed"), no_mangle)]
+pub unsafe extern "C" fn slash_load(
+    text: *const u8,
+    text_length: usize,
+    numbers: *mut u64,
+    numbers_length: usize,
+    words: *mut u64,
+    words_length: usize,
+    count: *mut u64,
+    total: *mut u64,
+) -> u64 {
+    let text = from_raw_parts(text, text_length);
+    let (numbers, words) = (
+        from_raw_parts_mut(numbers, numbers_length),
+        from_raw_parts_mut(words, words_length),
+    );
+    match hand::load::load(text, numbers, words) {
+        Ok(loaded) => {
+            (*count, *total) = loaded;
+            0
+        }
+        Err(status) => status,
+    }
+}

@@ -1,6 +1,7 @@
 //! Calls of the archive beside those of the implementation from the papers, and what differed.
 
 use crate::counts::Counts;
+use differential::load;
 use differential::night;
 use differential::paper::{self, Answer, Stop};
 use slash::raw;
@@ -43,6 +44,24 @@ fn stored(call: impl FnOnce(*mut u64) -> u64) -> (u64, u64) {
     let mut number = LENT;
     let returned = call(&mut number);
     (returned, number)
+}
+
+/// A list to lend, each number another, with guards around it.
+fn guarded(length: usize) -> Vec<u64> {
+    (0..(GUARDS + length + GUARDS) as u64)
+        .map(|at| LENT ^ at)
+        .collect()
+}
+
+/// What is lent of a guarded list.
+fn lent(list: &mut [u64]) -> &mut [u64] {
+    let end = list.len() - GUARDS;
+    &mut list[GUARDS..end]
+}
+
+/// The start of a text, to be printed.
+fn shown(bytes: &[u8]) -> String {
+    String::from_utf8_lossy(&bytes[..bytes.len().min(500)]).into_owned()
 }
 
 impl Harness {
@@ -167,13 +186,11 @@ impl Harness {
         archive: impl FnOnce(*mut u64, usize) -> u64,
         papers: impl FnOnce(&mut [u64]) -> Answer<()>,
     ) {
-        let mut out: Vec<u64> = (0..(GUARDS + length + GUARDS) as u64)
-            .map(|at| LENT ^ at)
-            .collect();
+        let mut out = guarded(length);
         let mut papers_out = out.clone();
-        let lent = &mut out[GUARDS..GUARDS + length];
-        let returned = archive(lent.as_mut_ptr(), lent.len());
-        let expected = papers(&mut papers_out[GUARDS..GUARDS + length]).map_or_else(status, |()| 0);
+        let lent_out = lent(&mut out);
+        let returned = archive(lent_out.as_mut_ptr(), lent_out.len());
+        let expected = papers(lent(&mut papers_out)).map_or_else(status, |()| 0);
         self.hold(name, input, (returned, out), (expected, papers_out));
     }
 
@@ -260,8 +277,6 @@ impl Harness {
             .iter()
             .all(|bytes| bytes.iter().all(|&byte| byte == LENT_BYTE));
         let same = lent[GUARDS..rest] == papers;
-        let shown =
-            |bytes: &[u8]| String::from_utf8_lossy(&bytes[..bytes.len().min(500)]).into_owned();
         self.hold(
             "slash_night",
             shown(recording),
@@ -272,4 +287,50 @@ impl Harness {
         lent[..written].fill(LENT_BYTE);
         self.listing = lent;
     }
+
+    // Calls on listings.
+
+    /// Holds all that a call is lent: the count, the total, and two lists of these lengths.
+    pub fn load(&mut self, text: &[u8], numbers_length: usize, words_length: usize) {
+        let (mut numbers, mut words) = (guarded(numbers_length), guarded(words_length));
+        let (mut papers_numbers, mut papers_words) = (numbers.clone(), words.clone());
+        let mut count = LENT;
+        let (start, length) = (text.as_ptr(), text.len());
+        let (n, w) = (
+            lent(&mut numbers).as_mut_ptr(),
+            lent(&mut words).as_mut_ptr(),
+        );
+        let (returned, total) = stored(|total| unsafe {
+            let count = &mut count;
+            raw::slash_load(
+                start,
+                length,
+                n,
+                numbers_length,
+                w,
+                words_length,
+                count,
+                total,
+            )
+        });
+        let papers = load::load(text, lent(&mut papers_numbers), lent(&mut papers_words));
+        let expected = match papers {
+            Ok((count, total)) => (0, count, total),
+            Err(stop) => (status(stop), LENT, LENT),
+        };
+        let [number, papers_number] = first_difference(&numbers, &papers_numbers);
+        let [word, papers_word] = first_difference(&words, &papers_words);
+        self.hold(
+            "slash_load",
+            (shown(text), numbers_length, words_length),
+            ((returned, count, total), number, word),
+            (expected, papers_number, papers_word),
+        );
+    }
+}
+
+/// What each of two guarded lists has at the first place where they differ, and that place, guards counted.
+fn first_difference(list: &[u64], other: &[u64]) -> [Option<(usize, u64)>; 2] {
+    let place = (0..list.len()).find(|&at| list[at] != other[at]);
+    [list, other].map(|list| place.map(|at| (at, list[at])))
 }

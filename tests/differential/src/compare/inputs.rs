@@ -71,7 +71,7 @@ impl Source {
     }
 
     /// 64 random bits.
-    fn bits(&mut self) -> u64 {
+    pub fn bits(&mut self) -> u64 {
         self.state ^= self.state << 13;
         self.state ^= self.state >> 7;
         self.state ^= self.state << 17;
@@ -83,7 +83,7 @@ impl Source {
         ((self.bits() as u128 * end as u128) >> 64) as u64
     }
 
-    fn one_of<T: Copy>(&mut self, things: &[T]) -> T {
+    pub fn one_of<T: Copy>(&mut self, things: &[T]) -> T {
         things[self.below(things.len() as u64) as usize]
     }
 
@@ -129,7 +129,7 @@ impl Source {
     }
 
     /// A word that mostly is good.
-    fn word_of(&mut self, form: Format) -> u64 {
+    pub fn word_of(&mut self, form: Format) -> u64 {
         let random = self.bits() >> (64 - form.width());
         match self.below(8) {
             0..=2 => random,
@@ -161,7 +161,7 @@ impl Source {
 
     /// A held pair, neither part 0, whose parts have random bit counts, often the largest, and one time in
     /// four a common factor of random size: chance alone makes no large one.
-    fn pair(&mut self, form: Format) -> paper::Pair {
+    pub fn pair(&mut self, form: Format) -> paper::Pair {
         let k = u64::from(form.k);
         let (numerator, denominator) = match (form.kind, self.below(2)) {
             (Kind::Fixed, 0) => (k, k),

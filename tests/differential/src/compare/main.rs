@@ -8,6 +8,7 @@
 mod calls;
 mod counts;
 mod inputs;
+mod listings;
 
 use calls::Harness;
 use counts::Part;
@@ -35,7 +36,7 @@ fn main() -> ExitCode {
     }
 }
 
-// The exhaustive part. What it leaves to the source is the text of the long recordings.
+// The exhaustive part. What it leaves to the source is the text of the long recordings and listings.
 
 fn exhaustive_part(harness: &mut Harness, source: &mut Source) {
     every_pair_of_words(harness);
@@ -44,6 +45,7 @@ fn exhaustive_part(harness: &mut Harness, source: &mut Source) {
     whole_vectors(harness);
     every_short_recording(harness);
     long_recordings(harness, source);
+    listings::every_listing(harness, source);
 }
 
 fn numbers_of(form: Format) -> (u64, u64) {
@@ -157,7 +159,7 @@ fn long_recordings(harness: &mut Harness, source: &mut Source) {
 /// One call, of any function, of a good or a strange format.
 fn random_call(harness: &mut Harness, source: &mut Source) {
     let form = source.format();
-    match source.below(20) {
+    match source.below(21) {
         0..=5 => {
             let (left, right) = source.operands(form);
             harness.binary(form, source.code(4), left, right);
@@ -179,6 +181,7 @@ fn random_call(harness: &mut Harness, source: &mut Source) {
             harness.quotients(form, source.word(form), length);
         }
         17 | 18 => random_vectors(harness, source, form),
+        19 => listings::random_listing(harness, source),
         _ => {
             let lines = source.below(9) as usize;
             let mut recording = source.recording(lines);

@@ -1,6 +1,6 @@
 -- `night_cases::show::checksum` meets its contract. Assumes nothing.
-use lib.ListN.{length}
 use Prim.Native.Nat.{_≤_, _-_}
+use lib.ListN.{length}
 use borrow.Author.Needs.{needs}
 use Rattle.night_cases.proofs.show.checksum.Statement.{statement}
 use Rattle.night_cases.proofs.show.checksum.Tie as tie
@@ -14,17 +14,14 @@ abbrev μ-loop : tie.MeasureT-loop
 loop-holds : tie.Need-loop-holds Inv-loop μ-loop
 loop-holds c = search needs
 
-mul-h : tie.Need-mul-h Inv-loop μ-loop
-mul-h c = search needs
-
 shared-slice-read-wide : tie.Need-shared-slice-read-wide Inv-loop μ-loop
 shared-slice-read-wide c = search needs
 
 wide-requires : tie.Need-wide-requires Inv-loop μ-loop
 wide-requires c κs = search needs
 
-add-h : tie.Need-add-h Inv-loop μ-loop
-add-h c = search needs
+summed-requires : tie.Need-summed-requires Inv-loop μ-loop
+summed-requires c κs = search needs
 
 add-i : tie.Need-add-i Inv-loop μ-loop
 add-i c = search needs
@@ -45,10 +42,9 @@ checksum-spec =
     Inv-loop
     μ-loop
     loop-holds
-    mul-h
     shared-slice-read-wide
     wide-requires
-    add-h
+    summed-requires
     add-i
     loop-less
     loop-again

@@ -1,0 +1,7 @@
+-- The laws that the functions' proofs cite, and what follows from the definitions.
+pub mod ListableLaws
+pub mod LineLaws
+pub mod LoadLaws
+pub mod TextLaws
+pub mod FillLaws
+pub mod PrintLaws

@@ -1,0 +1,23 @@
+-- What an archive has of a night: the words of its breaths, and the word of them all.
+use Prim.Native.Nat.{ℕ}
+use mathlib.Core.Path.{_≡_}
+use mathlib.Core.List.{List, [], _∷_}
+use Rattle.slash.specs.Answers.{done}
+use Rattle.breaths.specs.Breaths.{breathWord}
+use Rattle.breaths.specs.Sums.{sumsOf, nightWord}
+use Rattle.breaths.specs.declared.breath.Breath.{Breath}
+use Rattle.recording.specs.Reading.{breathsIn, recordingCheck}
+use Rattle.listing.specs.Listing.{listingOf}
+use Rattle.loading.specs.Loads.{Listing, load}
+
+unfoldable pub breathWords : List Breath → List ℕ
+breathWords [] = []
+breathWords (b ∷ bs) = breathWord b ∷ breathWords bs
+
+-- Those of a recording.
+unfoldable pub wordsOf : (recording : List ℕ) → Listing
+wordsOf bs = record { words = breathWords (breathsIn bs); total = nightWord (sumsOf (breathsIn bs)) }
+
+-- Loading what an unstopped run printed recovers the words.
+abbrev pub Recovered : (recording : List ℕ) → Type 0
+Recovered bs = recordingCheck bs ≡ done tt → load (listingOf bs) ≡ done (wordsOf bs)

@@ -1,0 +1,3 @@
+-- What `relist` prints, and what loading a night's listing gives.
+pub mod Again
+pub mod Archive

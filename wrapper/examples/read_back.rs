@@ -1,0 +1,32 @@
+//! Reads back the listing of a night, of which the recording wasn't kept: each breath's number and word,
+//! and the total's word. Then tries one in which a percentage was changed.
+
+use slash::{Loaded, Stop};
+
+/// Prints what a listing says, or why it is refused.
+fn print_loaded(listing: &str) {
+    match slash::load(listing.as_bytes()) {
+        Ok(Loaded { words, total }) => {
+            for (number, word) in (1..).zip(words) {
+                let void = if word == 0 { ", void" } else { "" };
+                println!("breath {number}: word {word:08x}{void}");
+            }
+            println!("the night: word {total:08x}");
+        }
+        Err(Stop { number, place }) => {
+            println!("the listing: stop {number} at line {place}, nothing is read back")
+        }
+    }
+}
+
+fn main() {
+    // What the program `night` printed.
+    let listing = "1\t01150282\t277/642\t43.1\n\
+                   2\t00020005\t2/5\t40.0\n\
+                   3\t00000000\t-\t-\n\
+                   all\t012502aa\t293/682\t43.0\n";
+    print_loaded(listing);
+
+    // 2/5 is 40.0 percent, and nothing else.
+    print_loaded(&listing.replace("40.0", "41.0"));
+}
