@@ -17,7 +17,7 @@ use Rattle.convergents.specs.Pairs.{Pair}
 use Rattle.slash.specs.Answers.{Outcome, stop, done, _then_}
 use Rattle.slash.specs.declared.answer.Stop.{Stop}
 use Rattle.slash.proofs.AnswerLaws.{done-inj, no-stop}
-use Rattle.breaths.specs.Ratios.{ratioOf, fractionOf}
+use Rattle.breaths.specs.Ratios.{wordOf, ratioOf, fractionOf}
 use Rattle.breaths.specs.declared.ratio.Ratio.{Ratio}
 use Rattle.breaths.specs.declared.ratio.Ratio.the-variants.{Void, Word}
 use Rattle.breaths.proofs.RatioLaws.{of-zero, of-some, word-of-ratio}
@@ -26,10 +26,12 @@ use Rattle.text.specs.Scan.{isDigit, lengthBefore, same, parted}
 use Rattle.text.specs.Columns.{thousandths, percentage, fractionText, fractionAndPercentage, columns}
 use Rattle.text.specs.Lines.{nameText, lineOf, isPrintable}
 use Rattle.text.specs.Stores.{put, listAfter}
-use Rattle.text.specs.declared.line.Name.the-variants.{Number}
+use Rattle.text.specs.declared.line.Name.the-variants.{Number, All}
 use Rattle.text.proofs.NumberLaws.{decimal-small, decimal-more, hexadecimal-length, put-front}
-use Rattle.text.proofs.PartLaws.{tail-is, Free, free-append, free-drop, before-at}
-use Rattle.text.proofs.LineLaws.{name-number, line-parts}
+use Rattle.text.proofs.PartLaws.{tail-is, free-append, free-drop, before-at}
+use Rattle.text.proofs.ScanLaws.{before-take}
+use Rattle.text.proofs.ColumnLaws.{columns-length}
+use Rattle.text.proofs.LineLaws.{is-printable, name-all, name-number, line-parts}
 use Rattle.shapes.specs.Fields.{every, isWhole, isPlace, inTwo, areWholes, isFraction, areWholeAndPlace, isDecimal}
 use Rattle.shapes.specs.Words.{isHexDigit, isWord, hexValue, hexFrom, wordIn}
 use Rattle.shapes.specs.Shapes.{isNamed, areColumns, shapeOfFields, shapeOf}
@@ -44,8 +46,8 @@ use Rattle.loading.specs.declared.load.Counted.{Counted}
 use Rattle.loading.specs.declared.load.Loaded.{Loaded}
 use Rattle.loading.specs.declared.load.Loaded.the-variants as Loaded
 use Rattle.loading.proofs.ListableLaws.{listable-small}
-use Rattle.loading.proofs.LineLaws.{digits-back}
-use Rattle.loading.proofs.LoadLaws.{printedFrom, printed-more, load-only, exactly}
+use Rattle.loading.proofs.LineLaws.{digits-back, ratio-printable}
+use Rattle.loading.proofs.LoadLaws.{printedFrom, printed-end, printed-more, load-only, exactly}
 
 -- ---- two examples
 
@@ -125,6 +127,24 @@ columns-some w = go (ℕ-discrete w 0)
     go (yes z) = omega (arith, void-some, ap (λ (r : Ratio). length (fractionAndPercentage r)) (of-zero w z))
     go (no z) = omega (arith, word-some w, ap (λ (r : Ratio). length (fractionAndPercentage r)) (of-some w z))
 
+-- `all`'s line, too
+all-long : (t : ℕ) → 15 ≤ length (lineOf All (ratioOf t))
+unfolding columns
+all-long t =
+    let r : Ratio = ratioOf t in
+    omega (
+      arith,
+      ap length (line-parts All r),
+      length-append (nameText All ++ tab ++ columns r) lineFeed,
+      length-append (nameText All ++ tab) (columns r),
+      length-append (nameText All) tab,
+      ap length (name-all All refl),
+      length-append (hexadecimal 8 (wordOf r) ++ tab) (fractionAndPercentage r),
+      length-append (hexadecimal 8 (wordOf r)) tab,
+      hexadecimal-length 8 (wordOf r),
+      columns-some t,
+    )
+
 module _ (n w : ℕ) (e : listable w ≡ true) (u more : List ℕ) (is : u ≡ lineOf (Number n) (ratioOf w) ++ more) (k : ℕ) (ke : k ≡ length (decimal n)) where
   abbrev shown : List ℕ
   shown = tab ++ fractionAndPercentage (ratioOf w)
@@ -171,27 +191,62 @@ module _ (n w : ℕ) (e : listable w ≡ true) (u more : List ℕ) (is : u ≡ l
   shown-some : 4 ≤ length shown
   shown-some = omega (arith, length-append tab (fractionAndPercentage (ratioOf w)), columns-some w)
 
-  pub line-behind : (j : ℕ) → j ≡ lengthBefore 10 (drop (k + 1 + 8 + 4) u)
-      → (drop (k + 1 + 8 + 4 + j + 1) u ≡ more) × (k + 1 + 8 + 4 + j + 1 ≤ length u)
-  line-behind j je =
-      let left : List ℕ = drop 4 shown in
-      let rest : drop (k + 1 + 8 + 4) u ≡ left ++ lineFeed ++ more =
+  -- and behind the fewest bytes there
+  abbrev left : List ℕ
+  left = drop 4 shown
+
+  left-are : drop (k + 1 + 8 + 4) u ≡ left ++ lineFeed ++ more
+  left-are =
       sym (drop-drop 4 (k + 1 + 8) u) ∙ ap (drop 4) columns-are
       ∙ drop-append-le 4 (shown ++ lineFeed) more (omega (arith, length-append shown lineFeed, shown-some))
       ∙ ap (λ (v : List ℕ). v ++ more) (drop-append-le 4 shown lineFeed shown-some)
-      in
-      let free : Free 10 left = free-drop 10 4 shown (free-append 10 tab (fractionAndPercentage (ratioOf w)) (refl, tt) (columns-free (ratioOf w))) in
-      let place : j ≡ length left = je ∙ ap (lengthBefore 10) rest ∙ before-at 10 left more free in
-      let m : length (left ++ lineFeed) ≡ j + 1 = omega (arith, length-append left lineFeed) in
-      let sum : k + 1 + 8 + 4 + (j + 1) ≡ k + 1 + 8 + 4 + j + 1 = omega arith in
-      let whole : length (left ++ lineFeed ++ more) ≡ j + 1 + length more = length-append (left ++ lineFeed) more ∙ ap (λ (i : ℕ). i + length more) m in (
-        ap (λ (i : ℕ). drop i u) (sym sum) ∙ sym (drop-drop (j + 1) (k + 1 + 8 + 4) u) ∙ ap (drop (j + 1)) rest ∙ drop-at (left ++ lineFeed) more (j + 1) m,
-        omega (arith, ap length rest, whole, length-drop (k + 1 + 8 + 4) u),
+
+  left-before : lengthBefore 10 (drop (k + 1 + 8 + 4) u) ≡ length left
+  left-before =
+      ap (lengthBefore 10) left-are
+      ∙ before-at 10 left more (free-drop 10 4 shown (free-append 10 tab (fractionAndPercentage (ratioOf w)) (refl, tt) (columns-free (ratioOf w))))
+
+  left-length : length (drop (k + 1 + 8 + 4) u) ≡ length left + 1 + length more
+  left-length = ap length left-are ∙ length-append (left ++ lineFeed) more ∙ ap (λ (i : ℕ). i + length more) (length-append left lineFeed)
+
+  -- the line feed stands among the next 16
+  pub line-near : lengthBefore 10 (drop (k + 1 + 8 + 4) u) < 16
+  unfolding columns
+  line-near =
+      let r : Ratio = ratioOf w in
+      omega (
+        arith,
+        left-before,
+        length-drop 4 shown,
+        length-append tab (fractionAndPercentage r),
+        length-append (hexadecimal 8 (wordOf r) ++ tab) (fractionAndPercentage r),
+        length-append (hexadecimal 8 (wordOf r)) tab,
+        hexadecimal-length 8 (wordOf r),
+        columns-length r (is-printable r (ratio-printable w e)),
+      )
+
+  pub line-behind : (j : ℕ) → j ≡ lengthBefore 10 (drop (k + 1 + 8 + 4) u)
+      → (drop (k + 1 + 8 + 4 + j + 1) u ≡ more) × (k + 1 + 8 + 4 + j + 1 ≤ length u)
+  line-behind j je =
+      let m : length (left ++ lineFeed) ≡ j + 1 = omega (arith, length-append left lineFeed, left-before) in
+      let sum : k + 1 + 8 + 4 + (j + 1) ≡ k + 1 + 8 + 4 + j + 1 = omega arith in (
+        ap (λ (i : ℕ). drop i u) (sym sum) ∙ sym (drop-drop (j + 1) (k + 1 + 8 + 4) u) ∙ ap (drop (j + 1)) left-are ∙ drop-at (left ++ lineFeed) more (j + 1) m,
+        omega (arith, left-length, left-before, length-drop (k + 1 + 8 + 4) u),
       )
 
   -- what stands behind the fewest bytes is within the text
   pub line-last : k + 1 + 8 + 4 ≤ length u
   line-last = omega (arith, ap length columns-are, length-append (shown ++ lineFeed) more, length-append shown lineFeed, length-drop (k + 1 + 8) u, shown-some, line-room)
+
+-- A line has at least 15 bytes,
+number-long : (n w : ℕ) → listable w ≡ true → (more : List ℕ) → 15 ≤ length (lineOf (Number n) (ratioOf w) ++ more)
+number-long n w l more =
+    omega (arith, line-behind n w l (lineOf (Number n) (ratioOf w) ++ more) more refl (length (decimal n)) refl _ refl .1, decimal-some n)
+
+-- and so has what is printed behind one.
+printed-long : (n : ℕ) (ws : List ℕ) (t : ℕ) → AllListable ws → 15 ≤ length (printedFrom n ws t)
+printed-long n [] t a = omega (arith, ap length (printed-end n t), all-long t)
+printed-long n (w ∷ ws) t a = omega (arith, ap length (printed-more n w ws t), number-long n w (a .0) (printedFrom (suc n) ws t))
 
 -- ---- filling
 
@@ -284,14 +339,26 @@ module _ {text : List ℕ} {count : ℕ} {a b a′ b′ : List ℕ} {from i : �
       filling-last =
           omega (arith, line-last (i + 1) (here .word) (here .listed) (drop from text) _ (here .text) k ke, length-drop from text, g .within)
 
-      module _ (j : ℕ) (je : j ≡ lengthBefore 10 (take (length text - (from + k + 1 + 8 + 4)) (drop (from + k + 1 + 8 + 4) text))) where
-        place : from + (k + 1 + 8 + 4) ≡ from + k + 1 + 8 + 4
-        place = omega arith
+      -- the bytes among which the line's end is looked for
+      tail : take (length text - (from + k + 1 + 8 + 4)) (drop (from + k + 1 + 8 + 4) text) ≡ drop (k + 1 + 8 + 4) (drop from text)
+      tail =
+          let place : from + (k + 1 + 8 + 4) ≡ from + k + 1 + 8 + 4 = omega arith in
+          tail-is (from + k + 1 + 8 + 4) text ∙ ap (λ (m : ℕ). drop m text) (sym place) ∙ sym (drop-drop (k + 1 + 8 + 4) from text)
 
+      pub filling-near : 16 ≤ length (take (length text - (from + k + 1 + 8 + 4)) (drop (from + k + 1 + 8 + 4) text))
+      filling-near =
+          omega (
+            arith,
+            ap length tail,
+            left-length (i + 1) (here .word) (here .listed) (drop from text) _ (here .text) k ke,
+            printed-long (suc (i + 1)) (here .others) (g .last) (here .rest-listed),
+          )
+
+      module _ (j : ℕ) (je : j ≡ lengthBefore 10 (take 16 (take (length text - (from + k + 1 + 8 + 4)) (drop (from + k + 1 + 8 + 4) text)))) where
         before : j ≡ lengthBefore 10 (drop (k + 1 + 8 + 4) (drop from text))
         before =
-            je ∙ ap (lengthBefore 10) (tail-is (from + k + 1 + 8 + 4) text) ∙ ap (λ (m : ℕ). lengthBefore 10 (drop m text)) (sym place)
-            ∙ ap (lengthBefore 10) (sym (drop-drop (k + 1 + 8 + 4) from text))
+            je ∙ ap (λ (u : List ℕ). lengthBefore 10 (take 16 u)) tail
+            ∙ before-take 10 16 (drop (k + 1 + 8 + 4) (drop from text)) (line-near (i + 1) (here .word) (here .listed) (drop from text) _ (here .text) k ke)
 
         behind-line : (drop (k + 1 + 8 + 4 + j + 1) (drop from text) ≡ printedFrom (suc (i + 1)) (here .others) (g .last))
             × (k + 1 + 8 + 4 + j + 1 ≤ length (drop from text))

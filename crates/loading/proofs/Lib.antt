@@ -3,5 +3,6 @@ pub mod ListableLaws
 pub mod LineLaws
 pub mod LoadLaws
 pub mod TextLaws
+pub mod EndLaws
 pub mod FillLaws
 pub mod PrintLaws

@@ -4,6 +4,7 @@ use mathlib.Core.Path.{_≡_}
 use mathlib.Core.Bool.{Bool, true, false, _&&_}
 use mathlib.Core.Logic.{_⊎_}
 use mathlib.Core.List.{List, [], _∷_}
+use lib.Dec.{eqb}
 use lib.ListN.{length, take, drop}
 use Rattle.convergents.specs.Choice.{if_then_else_}
 use Rattle.convergents.specs.Pairs.{Lowest}
@@ -78,6 +79,10 @@ EndIs n t text (Turn.Closed w) = endedFrom n t (parted 10 text) ≡ done (record
 EndIs n t text (Turn.Stopped s) = endedFrom n t (parted 10 text) ≡ stop (s .number) (s .place)
 
 -- ---- filling the lists
+
+-- Whether a byte ends a line, as a number.
+unfoldable pub endMark : ℕ → ℕ
+endMark x = if eqb x 10 then 1 else 0
 
 unfoldable pub wordsIn : Outcome Listing → List ℕ
 wordsIn (stop number place) = []

@@ -169,7 +169,7 @@ pub(crate) fn read_any(bytes: &[u8]) -> Line
 
 // The tick mark from a place on that the byte `end` ends goes into the lent number; the answer is the
 // place behind both, or 0 where there is none. It has room: ten digits and that byte. (The next tick
-// is breath-found from a place in a register; the number isn't waited for.)
+// is found from a place in a register; the number isn't waited for.)
 fn read_tick_at(bytes: &[u8], from: usize, end: u8, tick: &mut u32) -> usize
     requires { ⌜ from + 11 ≤ length (now bytes) ⌝ }
     ensures { λ r. ⌜ TickFound (now (bytes .entry)) from end (now (tick .exit)) r ⌝ }

@@ -1,5 +1,5 @@
 -- `loading::fill::fill_lists` meets its contract. Assumes nothing.
-use Rattle.loading.proofs.FillLaws.{Filling, filling-start, filling-few, filling-place, filling-room, filling-last, filling-used, filling-next, filling-end}
+use Rattle.loading.proofs.FillLaws.{Filling, filling-start, filling-few, filling-place, filling-room, filling-last, filling-near, filling-used, filling-next, filling-end}
 use native.Mathlib.Omega.{arith}
 use Prim.Native.Nat.{_-_}
 use borrow.Author.Needs.{needs}
@@ -54,23 +54,23 @@ mul-words c = search needs
 slice-write-words : tie.Need-slice-write-words Inv-loop μ-loop
 slice-write-words c = filling-place (c .before .before .before .loop .inv) (c .before .before .loop-test .taken) .1
 
-sub-length-before : tie.Need-sub-length-before Inv-loop μ-loop
-sub-length-before c = omega (arith, filling-last (c .before .before .before .loop .inv) (c .before .before .loop-test .taken) _ (c .before .digits .ensures))
+sub-near-end : tie.Need-sub-near-end Inv-loop μ-loop
+sub-near-end c = omega (arith, filling-last (c .before .before .before .loop .inv) (c .before .before .loop-test .taken) _ (c .before .digits .ensures))
 
-part-length-before-start : tie.Need-part-length-before-start Inv-loop μ-loop
-part-length-before-start c = omega (arith, filling-last (c .before .before .before .loop .inv) (c .before .before .loop-test .taken) _ (c .before .digits .ensures))
+part-near-end-start : tie.Need-part-near-end-start Inv-loop μ-loop
+part-near-end-start c = omega (arith, filling-last (c .before .before .before .loop .inv) (c .before .before .loop-test .taken) _ (c .before .digits .ensures))
 
-part-length-before-end : tie.Need-part-length-before-end Inv-loop μ-loop
-part-length-before-end c = omega arith
+part-near-end-end : tie.Need-part-near-end-end Inv-loop μ-loop
+part-near-end-end c = omega arith
 
-length-before-requires : tie.Need-length-before-requires Inv-loop μ-loop
-length-before-requires c κs = search needs
+near-end-requires : tie.Need-near-end-requires Inv-loop μ-loop
+near-end-requires c κs = filling-near (c .before .before .before .before .loop .inv) (c .before .before .before .loop-test .taken) _ (c .before .before .digits .ensures)
 
 add-from : tie.Need-add-from Inv-loop μ-loop
-add-from c = omega (arith, filling-used (c .before .before .before .before .before .loop .inv) (c .before .before .before .before .loop-test .taken) _ (c .before .before .before .digits .ensures) _ (c .length-before .ensures .1))
+add-from c = omega (arith, filling-used (c .before .before .before .before .before .loop .inv) (c .before .before .before .before .loop-test .taken) _ (c .before .before .before .digits .ensures) _ (c .near-end .ensures))
 
 add-from-2 : tie.Need-add-from-2 Inv-loop μ-loop
-add-from-2 c = omega (arith, filling-used (c .before .before .before .before .before .loop .inv) (c .before .before .before .before .loop-test .taken) _ (c .before .before .before .digits .ensures) _ (c .length-before .ensures .1))
+add-from-2 c = omega (arith, filling-used (c .before .before .before .before .before .loop .inv) (c .before .before .before .before .loop-test .taken) _ (c .before .before .before .digits .ensures) _ (c .near-end .ensures))
 
 add-i : tie.Need-add-i Inv-loop μ-loop
 add-i c = omega arith
@@ -79,7 +79,7 @@ loop-less : tie.Need-loop-less Inv-loop μ-loop
 loop-less c = omega arith
 
 loop-again : tie.Need-loop-again Inv-loop μ-loop
-loop-again c = filling-next (c .before .before .before .before .before .loop .inv) (c .before .before .before .before .loop-test .taken) _ (c .before .before .before .digits .ensures) _ (c .length-before .ensures .1) _ (c .before .before .word-at .ensures)
+loop-again c = filling-next (c .before .before .before .before .before .loop .inv) (c .before .before .before .before .loop-test .taken) _ (c .before .before .before .digits .ensures) _ (c .near-end .ensures) _ (c .before .before .word-at .ensures)
 
 same-length : tie.Need-same-length Inv-loop μ-loop
 same-length c = c .before .loop .inv .numbers-long
@@ -110,10 +110,10 @@ fill-lists-spec =
     word-at-requires
     mul-words
     slice-write-words
-    sub-length-before
-    part-length-before-start
-    part-length-before-end
-    length-before-requires
+    sub-near-end
+    part-near-end-start
+    part-near-end-end
+    near-end-requires
     add-from
     add-from-2
     add-i
