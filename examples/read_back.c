@@ -1,5 +1,6 @@
 /* Reads back the listing of a night, of which the recording wasn't kept: each breath's number and word,
- * and the total's word. Then tries one in which a percentage was changed. */
+ * and the total's word. Then that of a recorder that was never worn, and one in which a percentage was
+ * changed. */
 
 #include "slash.h"
 
@@ -7,6 +8,11 @@
 #include <stdio.h>
 #include <stdlib.h>
 #include <string.h>
+
+/* What is printed behind a word. */
+static const char *note(uint64_t word) {
+    return word == 0 ? ", void" : "";
+}
 
 /* Reads a listing back and prints what it says, or why it is refused; returns whether it was read. */
 static int print_loaded(const char *listing) {
@@ -20,10 +26,9 @@ static int print_loaded(const char *listing) {
         return 0;
     }
     for (uint64_t i = 0; i < count; i++) {
-        printf("breath %" PRIu64 ": word %08" PRIx64 "%s\n", numbers[i], words[i],
-               words[i] == 0 ? ", void" : "");
+        printf("breath %" PRIu64 ": word %08" PRIx64 "%s\n", numbers[i], words[i], note(words[i]));
     }
-    printf("the night: word %08" PRIx64 "\n", total);
+    printf("the night: word %08" PRIx64 "%s\n", total, note(total));
     return 1;
 }
 
@@ -34,10 +39,13 @@ int main(void) {
                                "3\t00000000\t-\t-\n"
                                "all\t012502aa\t293/682\t43.0\n");
 
+    /* And what it printed for a night with nothing in it: no breath, and a void total. */
+    int is_empty_night_read = print_loaded("all\t00000000\t-\t-\n");
+
     /* 2/5 is 40.0 percent, and nothing else. */
     int is_read_too = print_loaded("1\t01150282\t277/642\t43.1\n"
                                    "2\t00020005\t2/5\t41.0\n"
                                    "3\t00000000\t-\t-\n"
                                    "all\t012502aa\t293/682\t43.0\n");
-    return is_read && !is_read_too ? EXIT_SUCCESS : EXIT_FAILURE;
+    return is_read && is_empty_night_read && !is_read_too ? EXIT_SUCCESS : EXIT_FAILURE;
 }

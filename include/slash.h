@@ -61,7 +61,7 @@ extern "C" {
 #define SLASH_ABOVE 2
 #define SLASH_UNORDERED 3
 
-/* Stops. */
+/* Stops. (12 is reserved: no call returns it.) */
 #define SLASH_UNKNOWN_FORMAT 1           /* unknown kind or k */
 #define SLASH_UNKNOWN_CODE 2             /* unknown operation code */
 #define SLASH_UNEQUAL_LENGTHS 3          /* vectors of unequal length */
@@ -73,9 +73,8 @@ extern "C" {
 #define SLASH_BAD_LINE_END 9             /* over 32 bytes before the line feed, or no line feed */
 #define SLASH_NOT_THREE_FIELDS 10        /* line with other than two tabs */
 #define SLASH_BAD_TICK_MARK 11           /* field that isn't a number as slash_night takes them */
-#define SLASH_NO_LINE 12                 /* recording of no byte; its place is line 1 */
 #define SLASH_BAD_LISTED_LINE 13         /* line without the shape of a listed one */
-#define SLASH_OUT_OF_SEQUENCE 14         /* number out of sequence; `all` first, missing or not last */
+#define SLASH_OUT_OF_SEQUENCE 14         /* number or `all` out of sequence, as slash_load says */
 #define SLASH_BAD_LISTED_WORD 15         /* word that no listing has, or columns of another */
 
 /* A returned number that isn't 0, taken apart. */
@@ -146,24 +145,26 @@ uint64_t slash_convert_each(uint64_t kind, uint64_t k, uint64_t to_kind, uint64_
 /* Stores the listing of a night's recording, what the program `night` prints for it, at the start of
  * the lent listing, leaves the rest as it was, and stores the listing's length. The recording has a
  * breath a line: onset, peak and next onset, decimal numbers from 0 to 4294967295 without leading
- * zeros, parted by one tab, each line ended by one line feed. Stops 8, 9, 10, 11, 12, with the line as
- * place. It is read through before anything is stored, so that a stop leaves the listing and the length
- * as they were; the lines before that line are good, and can be listed by a call of their own. */
+ * zeros, parted by one tab, each line ended by one line feed. A recording without a byte is a night with
+ * nothing in it: its listing is the line `all`, void. Stops 8, 9, 10, 11, with the line as place. It is
+ * read through before anything is stored, so that a stop leaves the listing and the length as they were;
+ * the lines before that line are good, and can be listed by a call of their own. */
 uint64_t slash_night(const uint8_t *recording, size_t recording_length, uint8_t *listing,
                      uint64_t *length);
 
 /* Reads a printed listing back: stores the breaths' numbers, from 1, and their words at the start of the
  * two lists, leaves the rest of each as it was, and stores the count of breaths and the total's word. The
- * listing has from 1 to 65,536 lines of breaths, then the line `all`, and each line reads as slash_night
+ * listing has from 0 to 65,536 lines of breaths, then the line `all`, and each line reads as slash_night
  * lists it: the breath's number or `all`; the word, 0 where it is void, else canonical in fixed k = 15,
  * of sign 0 and from 0 to 1, marked or not; the word's fraction and percentage, or two hyphens where it
- * is void. Whether the total follows from the breaths isn't judged. Stops, with the line as place:
+ * is void. Where there are no breaths, `all` is void; whether the total follows from the breaths isn't
+ * judged otherwise. Stops, with the line as place:
  *
  *   13   a line of another shape than: a whole number or `all`; eight lowercase hexadecimal digits; two
  *        hyphens, or a fraction and a decimal number of one place. Whole numbers may have any length, but
  *        no leading zeros; tabs and line feed are as listed
- *   14   a number out of sequence or above 65,536, `all` as the first line, a line after `all`, or no
- *        `all`: that at the line after the last
+ *   14   a number out of sequence or above 65,536, `all` as the first line where it differs from that of
+ *        no breaths, a line after `all`, or no `all`: that at the line after the last
  *   15   a word that is none of those, or a fraction or percentage that isn't the word's
  *
  * and last 7, for a list shorter than the breaths. The listing is read through before anything is stored. */

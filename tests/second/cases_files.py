@@ -62,13 +62,15 @@ def end_of(listing):
 
 
 def short():
-    """Each stop but 8, at a first, a second or a last line, and what lies next to them."""
+    """Nothing; each stop but 8, at a first, a second or a last line; and what lies next to them."""
     return {
         "example": EXAMPLE,
         "one": GOOD,
         # 32 bytes before the line feed, the largest tick mark among them.
         "widest": line(4294966653, 4294966930, 4294967295),
+        # An empty night, and the one byte that is an empty line.
         "empty": b"",
+        "line_feed": b"\n",
         # A line of 33 bytes before the line feed, and none with a line feed.
         "overlong": GOOD + line(4294966653, 4294966930, 42949672950) + LATER,
         "unended": b"0\t277\t642",

@@ -50,7 +50,7 @@ PLACES = range(len(ROWS) + 1)
 # The columns of such a line.
 NAME, WORD, FRACTION, PERCENTAGE = range(4)
 
-# The total of a listing of void breaths.
+# The total of void breaths, and of none: by itself the listing of an empty night.
 VOID_TOTAL = b"all\t00000000\t-\t-\n"
 
 # Powers of 2 that are lost where a number is kept in too few bits.
@@ -202,7 +202,7 @@ RECORDED = [
     cases_night.ends_of_the_ratio,
     cases_night.large_ratios,
     cases_night.first_stop,
-    cases_night.no_line,
+    cases_night.empty_night,
 ]
 
 
@@ -228,6 +228,14 @@ def list_lengths():
             yield loaded(text, numbers=numbers, words=words)
 
 
+def empty_night_loaded():
+    """The listing of no breaths: lists without a place are long enough, and others keep theirs."""
+    for numbers, words in product((0, 1, 2, 5, 12, 13), repeat=2):
+        yield loaded(VOID_TOTAL, numbers=numbers, words=words)
+    for numbers, words in ((MOST_PLACES, 0), (0, MOST_PLACES), (MOST_LINES, MOST_PLACES)):
+        yield loaded(VOID_TOTAL, numbers=numbers, words=words)
+
+
 def long_lists():
     """Lists for many breaths, and for few where there are many places."""
     for count in (9, 10, 99, 100, 999, 1000, 9999, 10000):
@@ -240,12 +248,13 @@ def long_lists():
 # 2. Listings with one byte another, lost or doubled, or cut off.
 
 # Each is the void breaths before it, and its bytes: with a void breath, void breaths alone, marked
-# ends, and numbers of two digits.
+# ends, numbers of two digits, and no breath.
 DAMAGED = [
     (0, ROWS[0] + row(2, VOID) + ROWS[3]),
     (0, row(1, VOID) + VOID_TOTAL),
     (0, row(1, stored(0, 1, 1)) + row(2, stored(1, 1, 1)) + row(TOTAL, stored(1, 2))),
     (8, row(9, stored(1, 3)) + row(10, stored(1, 16, 1)) + row(TOTAL, stored(1, 11))),
+    (0, VOID_TOTAL),
 ]
 
 
@@ -327,13 +336,35 @@ def shapeless_fields():
 
 def shapeless_hyphens():
     """Hyphens beside other texts, and others for them, in each line, void or with its own word."""
-    pairs = [(b"-", b"43.1"), (b"277/642", b"-"), (b"-", b""), (b"", b"-"), (b"", b"")]
-    pairs += [(b"--", b"-"), (b"-", b"--"), (b"- ", b"-"), (b"-", b" -"), (b"-", b"0.0")]
-    pairs += [(b"0/1", b"-"), (b"-/-", b"-.-"), (b"_", b"_"), (b"\x96", b"\x96")]
-    for place, (fraction, decimal) in product(PLACES, pairs):
+    for place, (fraction, decimal) in product(PLACES, NO_HYPHENS):
         columns = [(FRACTION, fraction), (PERCENTAGE, decimal)]
         yield loaded(with_fields(place, [(WORD, b"00000000"), *columns]))
         yield loaded(with_fields(place, columns))
+
+
+# Texts for the last two columns that aren't two hyphens.
+NO_HYPHENS = [
+    *((b"-", b"43.1"), (b"277/642", b"-"), (b"-", b""), (b"", b"-"), (b"", b"")),
+    *((b"--", b"-"), (b"-", b"--"), (b"- ", b"-"), (b"-", b" -"), (b"-", b"0.0")),
+    *((b"0/1", b"-"), (b"-/-", b"-.-"), (b"_", b"_"), (b"\x96", b"\x96")),
+]
+
+
+def shapeless_total_first():
+    """A first line `all` that is void but for texts of another shape: 13, and never 14."""
+    for text in SHAPELESS[NAME]:
+        if b"all" in text.lower():
+            yield loaded(joined([text, b"00000000", b"-", b"-"]))
+    for text in SHAPELESS[WORD]:
+        yield loaded(joined([b"all", text, b"-", b"-"]))
+    for fraction, decimal in NO_HYPHENS:
+        yield loaded(joined([b"all", b"00000000", fraction, decimal]))
+        yield loaded(joined([b"all", b"00000000", fraction, decimal]), *ROWS)
+    body = VOID_TOTAL[:-1]
+    for text in (body + b"\r\n", body + b" \n", body + b"\t\n", body.replace(b"\t", b" ") + b"\n"):
+        yield loaded(text)
+    # What an empty night had for a listing before CR 3.
+    yield loaded(b"refused\t12\t1\n")
 
 
 def shapeless_parting():
@@ -414,14 +445,68 @@ def no_total():
 
 
 def total_first():
-    """`all` before any breath: 14, and never 15."""
-    for text in (ROWS[3], VOID_TOTAL, *(row(TOTAL, word) for word in GOOD_WORDS[1:4])):
+    """`all` before any breath, and not void: 14, and never 15."""
+    for text in (ROWS[3], *(row(TOTAL, word) for word in GOOD_WORDS[1:4])):
         yield loaded(text)
         yield loaded(text, numbers=0, words=0)
         yield loaded(text, *ROWS)
         yield loaded(text, row(2, VOID), VOID_TOTAL)
+        yield loaded(text, VOID_TOTAL)
+        yield loaded(text, b"x")
     for columns in (("80000001", "0/1", "0.0"), ("00000000", "0/1", "0.0"), ("00010002", "-", "-")):
         yield loaded(line(TOTAL, *columns))
+
+
+def total_first_by_word():
+    """Such an `all` with each kind of word and its stored parts, and with each bit and hyphens."""
+    for word in dict.fromkeys([*GOOD_WORDS, *every_kind_of_word()]):
+        yield loaded(line(TOTAL, *stored_columns(word)))
+    for place in range(slash.width(STORED)):
+        yield loaded(line(TOTAL, "%08x" % 2**place, "-", "-"), numbers=0, words=0)
+
+
+def total_first_by_columns():
+    """Such an `all` with the word of a void one, and a fraction and a decimal of each kind."""
+    fractions = ["0/1", "0/0", "1/0", "1/1", "0/2", "277/642", "18446744073709551616/1"]
+    for fraction, decimal in product(fractions, ("0.0", "0.1", "43.1", "100.0")):
+        yield loaded(line(TOTAL, "00000000", fraction, decimal))
+    for before, after in ((b"", b"/1\t0.0\n"), (b"0/", b"\t0.0\n"), (b"0/1\t", b".0\n")):
+        start = joined([b"all", b"00000000", before])[:-1]
+        yield Load(0, 0, 0, [(1, start), (100_000, b"1"), (1, after)])
+
+
+def behind_void_total():
+    """A void `all` as the first line, and more: 13 where that hasn't the shape, else 14; line 2."""
+    for text in (*BEHIND_TOTAL, *BYTES_BEHIND_TOTAL):
+        yield loaded(VOID_TOTAL, text)
+    for text in (row(1, VOID), VOID_TOTAL, b"\n", b"7"):
+        yield Load(2, 2, 0, [(1, VOID_TOTAL), (MOST_LINES, text)])
+
+
+# Lines that go behind a total, good ones, ones that earn each stop, and listings.
+BEHIND_TOTAL = [
+    *(row(1, VOID), row(2, VOID), row(1, stored(1, 2)), line(0, *night.VOID_COLUMNS)),
+    *(VOID_TOTAL, ROWS[3], row(1, VOID) + VOID_TOTAL, row(2, VOID) + VOID_TOTAL, b"".join(ROWS)),
+    *(line(2, "80010002", "1/2", "50.0"), line(TOTAL, "00000000", "0/1", "0.0")),
+    *(row(1, VOID) + b"x", b"x\n" + row(1, VOID), b"\n" + VOID_TOTAL, b"refused\t10\t2\n"),
+    *(b"\n", b" \n", b"all\n", b"01\t00000000\t-\t-\n", b"2\t0000000\t-\t-\n", b"\r\n"),
+]
+
+# Bytes that are no line, as no line feed ends them.
+BYTES_BEHIND_TOTAL = [
+    *(b"\0", b"\t", b"\r", b" ", b"\x1a", b"\xff", b"-", b"0", b"1", b"x", b"all"),
+    *(row(1, VOID)[:-1], VOID_TOTAL[:-1]),
+]
+
+
+def before_void_total():
+    """Void breaths of each kind of number, alone and before a void `all`, and other bytes there."""
+    for number in (0, 1, 2, 65_535, 65_536, 65_537, 2**32 + 1, 2**64 + 1):
+        yield loaded(line(number, *night.VOID_COLUMNS), VOID_TOTAL)
+        yield loaded(line(number, *night.VOID_COLUMNS))
+    for text in (b"\n", b"\r\n", b"0\n", b"x\n", b"0", b"1", b"0\t", b"1\t", b"\t", b" ", b"\0"):
+        yield loaded(text, VOID_TOTAL)
+    yield loaded(b"\xef\xbb\xbf", VOID_TOTAL)
 
 
 def numbers_of_each_length():
@@ -683,6 +768,7 @@ GROUPS = [
     listings_of_recordings,
     ties_loaded,
     list_lengths,
+    empty_night_loaded,
     long_lists,
     bytes_changed,
     bytes_lost,
@@ -690,6 +776,7 @@ GROUPS = [
     cut_listings,
     shapeless_fields,
     shapeless_hyphens,
+    shapeless_total_first,
     shapeless_parting,
     shapeless_count_of_fields,
     shapeless_lines,
@@ -698,6 +785,10 @@ GROUPS = [
     rows_moved,
     no_total,
     total_first,
+    total_first_by_word,
+    total_first_by_columns,
+    behind_void_total,
+    before_void_total,
     numbers_of_each_length,
     kinds_of_word,
     columns_of_the_value,

@@ -428,12 +428,26 @@ def first_stop():
     yield once(GOOD, b"0" * 40)
 
 
-def no_line():
-    """The empty recording."""
+def empty_night():
+    """No byte at all, by each kind of recipe that makes none."""
     yield []
     yield [(0, b"")]
     yield [(1, b"")]
     yield [(0, GOOD)]
+    yield [(night.MOST_LINES, b"")]
+    yield [(0, GOOD), (0, b"\n")]
+    yield [(0, b""), (0, b"x"), (7, b"")]
+
+
+def nearly_empty_night():
+    """A byte or a few, which aren't nothing: stops 9, 10 and 11."""
+    texts = [b"\n", b"\0", b"\t", b" ", b"\r", b"\v", b"\f", b"\x04", b"\x1a", b"\x7f", b"\xff"]
+    texts += [b"-", b"0", b"\r\n", b"\n\r", b" \n", b"\t\t\n", b"\0\n", b"\x1a\n", b"\xef\xbb\xbf"]
+    texts += [b"all", b"all\n", b"all\t00000000\t-\t-\n", b"-\t-\t-\n"]
+    for text in texts:
+        yield once(text)
+    yield [(0, GOOD), (1, b"\n")]
+    yield [(1, b"\0"), (0, GOOD)]
 
 
 # 3. Long recordings.
@@ -609,7 +623,8 @@ GROUPS = [
     strange_bytes,
     every_byte,
     first_stop,
-    no_line,
+    empty_night,
+    nearly_empty_night,
     most_lines,
     bad_last_lines,
     widest_recordings,

@@ -71,6 +71,15 @@ def each_once(*words):
 # 1. Words of each kind.
 
 
+def empty_night_printed():
+    """No word but the total's, and that void: the listing of an empty night, by several recipes."""
+    total = repeated(1, VOID)
+    yield [total]
+    yield [(BYTES, b"\0")]
+    yield [repeated(0, stored(277, 642)), total]
+    yield [repeated(0, VOID), total, repeated(0, BAD_WORDS[0])]
+
+
 def good_words_printed():
     """Words that a listing can have, as a breath's and as the total's."""
     for word in GOOD_WORDS:
@@ -106,8 +115,10 @@ def words_above_32_bits():
 
 
 def totals_alone():
-    """No word but the total's, whatever that is: 14, and never 15."""
-    for word in [*GOOD_WORDS, *BAD_WORDS, *range(2, 9), 2**63, 2**64 - 1]:
+    """No word but the total's, whatever that is but void: 14, and never 15."""
+    highs = [2**place for place in range(32, 64)] + [2**64 - 2**32, 2**64 - 1]
+    words = [*GOOD_WORDS, *BAD_WORDS, *range(2, 9), *every_kind_of_word(), *highs]
+    for word in sorted({*words} - {VOID}):
         yield each_once(word)
 
 
@@ -178,6 +189,7 @@ def random_words_printed():
 
 
 GROUPS = [
+    empty_night_printed,
     good_words_printed,
     small_words_printed,
     kinds_of_word_printed,

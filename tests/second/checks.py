@@ -131,10 +131,10 @@ RULE_ANSWERS = [
 ]
 
 # Recordings and their listings, worked out by hand from the rules of document 01 and
-# CR 1 of 02.
+# CRs 1 and 3 of 02.
 NIGHT_LISTINGS = [
     (EXAMPLE, EXAMPLE_LISTING),
-    (b"", b"refused\t12\t1\n"),
+    (b"", b"all\t00000000\t-\t-\n"),
     (b"\n", b"refused\t10\t1\n"),
     (b"0\t1\t2", b"refused\t9\t1\n"),
     (b"0\t1\tx\n", b"refused\t11\t1\n"),

@@ -1,4 +1,4 @@
-"""Checks of the listings that are read back and printed again: what CR 2 of 02 says of them."""
+"""Checks of listings that are read back and printed again: what CRs 2 and 3 of 02 say of them."""
 
 import random
 
@@ -16,7 +16,7 @@ from slash import FRACTION, ZERO, Stop
 # The most bytes of the texts and recordings of the cases that are looked at here.
 LONGEST = 20_000
 
-# Good listings and the words they hold, worked out by hand from CR 2.
+# Good listings and the words they hold, worked out by hand from CRs 2 and 3.
 LOADED = [
     (EXAMPLE_LISTING, [0x01150282, 0x00020005, 0], 0x012502AA),
     (b"1\t00000000\t-\t-\nall\t00000000\t-\t-\n", [0], 0),
@@ -24,6 +24,8 @@ LOADED = [
     (b"1\t00000001\t0/1\t0.0\nall\t00018001\t1/1\t100.0\n", [1], 0x18001),
     (b"1\t00010001\t1/1\t100.0\nall\t00008001\t0/1\t0.0\n", [0x10001], 0x8001),
     (b"1\t00000000\t-\t-\nall\t00010010\t1/16\t6.2\n", [0], 0x10010),
+    # An empty night.
+    (b"all\t00000000\t-\t-\n", [], 0),
 ]
 
 # Texts and the number and line of their stop. The first line is good where it isn't the bad one.
@@ -42,15 +44,29 @@ STOPPED = [
     (GOOD + b"2\t00000000\t-\t-\r\n" + ALL, 13, 2),
     (GOOD + ALL[:-1], 13, 2),
     (GOOD + ALL + b"x", 13, 3),
-    # 14 a number out of sequence, `all` first, a line after `all`, no `all`.
+    # 14 a number out of sequence, a line after `all`, no `all`.
     (b"0\t00000000\t-\t-\n" + ALL, 14, 1),
     (b"18446744073709551617\t00000000\t-\t-\n" + ALL, 14, 1),
     (GOOD + GOOD + ALL, 14, 2),
-    (ALL, 14, 1),
     (GOOD + ALL + ALL, 14, 3),
     (GOOD + ALL + b"2\t00000000\t-\t-\n", 14, 3),
     (GOOD, 14, 2),
     (b"", 14, 1),
+    # `all` first: 14, whatever its word and columns are, where it isn't the void line.
+    (b"all\t00000001\t0/1\t0.0\n", 14, 1),
+    (b"all\t00010002\t1/2\t50.0\n" + GOOD + ALL, 14, 1),
+    (b"all\t00020004\t2/4\t50.0\n", 14, 1),
+    (b"all\t00000000\t0/1\t0.0\n", 14, 1),
+    (b"all\t00008000\t-\t-\n", 14, 1),
+    (b"all\t80000000\t-\t-\nx", 14, 1),
+    # But 13 where it hasn't the shape, and a line behind the void one is a line after `all`.
+    (ALL[:-1], 13, 1),
+    (b"all\t00000000\t0/1\t-\n", 13, 1),
+    (ALL + ALL, 14, 2),
+    (ALL + GOOD, 14, 2),
+    (ALL + b"1\t00020004\t2/4\t50.0\n" + ALL, 14, 2),
+    (ALL + b"\n" + GOOD, 13, 2),
+    (ALL + b"x", 13, 2),
     # 15 a word that is none of those: unreduced, above 1, sign 1, infinity, 0/3, not-a-number.
     (b"1\t00020004\t2/4\t50.0\n" + ALL, 15, 1),
     (b"1\t00030002\t3/2\t150.0\n" + ALL, 15, 1),
@@ -72,8 +88,12 @@ STOPPED = [
 
 # Words, the total's last, and the stop of printing them.
 UNPRINTED = [
-    ([VOID], 14, 1),
+    ([1], 14, 1),
     ([2], 14, 1),
+    ([0x8000], 14, 1),
+    ([0x10002], 14, 1),
+    ([2**32], 14, 1),
+    ([2**64 - 1], 14, 1),
     ([2, 2], 15, 1),
     ([VOID, 2], 15, 2),
     ([VOID, 2**32], 15, 2),
@@ -89,6 +109,7 @@ def check_listings():
     check_by_hand()
     check_most_breaths()
     check_lent_lists()
+    check_empty_night()
     check_listed_words()
     check_recordings()
     check_texts()
@@ -159,7 +180,19 @@ def lent_after(text, numbers, words):
     return told, *lent
 
 
-# By what CR 2 says of all words, recordings and texts.
+def check_empty_night():
+    """Asserts that no byte is listed as no breath, and that loading this changes no list."""
+    for pieces in cases_night.empty_night():
+        assert night.listing(cases_night.recording(pieces)) == ALL, pieces
+    for case in cases_load.empty_night_loaded():
+        lent = [-1] * case.numbers, [-1] * case.words
+        loaded = lent_after(cases_load.text_of(case), case.numbers, case.words)
+        assert loaded == ((0, VOID), *lent), case
+    for pieces in cases_print.empty_night_printed():
+        assert cases_print.answer(pieces) == ALL, pieces
+
+
+# By what CRs 2 and 3 say of all words, recordings and texts.
 
 
 def check_listed_words():
@@ -189,8 +222,9 @@ def check_recordings():
 
 
 def check_recording(recording):
-    """Asserts that a recording's listing gives back its words and its bytes, or is refused."""
+    """Asserts that a listing gives back its words and its bytes, or is refused but not with 12."""
     listing = night.listing(recording)
+    assert b"refused\t12" not in listing, recording
     if b"refused" in listing:
         assert stop_of(load, listing) == (13, listing.count(b"\n")), recording
         return
@@ -215,6 +249,7 @@ def check_texts():
         if len(text) <= LONGEST:
             stop = stop_of(load, text)
             assert (stop is None) == is_printed(text), name
+            check_first_line(stop, text, name)
             if stop is not None:
                 check_stopped_line(stop, text, name)
                 check_lines_before(stop, text, name)
@@ -237,6 +272,15 @@ def field_of(line):
         return int(line.split(b"\t")[1], 16)
     except (IndexError, ValueError):
         return None
+
+
+def check_first_line(stop, text, name):
+    """Asserts that a first line `all` of the shape is refused with 14, or is void and isn't."""
+    first = text[: text.find(b"\n") + 1]
+    if first == ALL:
+        assert stop is None or stop[1] == 2, name
+    elif first.startswith(b"all\t") and has_shape(first[:-1]):
+        assert stop == (14, 1), name
 
 
 def check_stopped_line(stop, text, name):
@@ -284,18 +328,29 @@ def check_lines_before(stop, text, name):
     assert stop_of(load, before) == (None if has_total else (14, place)), name
 
 
+# By stop, what the names of groups begin with whose cases all earn it.
+NAMED_AFTER = {13: ("shapeless", "unended"), 14: ("no_total", "total_first")}
+
+
 def check_stops_of_groups():
     """Asserts the stop of the cases that are named after it, or by the fault that they have."""
-    for group in cases_load.GROUPS:
-        if group.__name__.startswith(("shapeless", "unended")):
-            for case in group():
-                assert stop_of(load, cases_load.text_of(case))[0] == 13, case
+    for number, beginnings in NAMED_AFTER.items():
+        for case in cases_named(beginnings):
+            assert stop_of(load, cases_load.text_of(case))[0] == number, case
+    for pieces in cases_print.totals_alone():
+        assert cases_print.answer(pieces) == b"stop 14 1\n", pieces
     for place in cases_load.PLACES:
         for number, faults in cases_load.FAULTS.items():
             expected = min(number, 14) if place == cases_load.PLACES[-1] else number
             for fault in faults:
                 text = cases_load.with_fields(place, [fault])
                 assert stop_of(load, text) == (expected, place + 1), (place, fault)
+
+
+def cases_named(beginnings):
+    """The cases of the groups whose names begin so."""
+    groups = [group for group in cases_load.GROUPS if group.__name__.startswith(beginnings)]
+    return [case for group in groups for case in group()]
 
 
 def check_group_names():

@@ -1,4 +1,4 @@
-"""Listings read back and printed again, from documents 00 and 01 and CRs 1 and 2 of 02 alone."""
+"""Listings read back and printed again, from documents 00 and 01 and CRs 1 to 3 of 02 alone."""
 
 import io
 import re
@@ -49,7 +49,7 @@ def load(text):
     words, ended = [], False
     for place, line in enumerate(lines_of(text), 1):
         name, columns = shaped(line, place)
-        if ended or not in_sequence(name, place):
+        if ended or not in_sequence(name, columns, place):
             raise Stop(OUT_OF_SEQUENCE, place)
         words.append(int(columns[0], 16))
         if columns != columns_of(words[-1]):
@@ -75,13 +75,14 @@ def shaped(line, place):
     return name, tuple(columns.split("\t"))
 
 
-def in_sequence(name, place):
-    """Whether the line at this place may begin so, if no total is before it.
+def in_sequence(name, columns, place):
+    """Whether a line of this name and these columns may be at a place with no total before it.
 
-    A number is held against the place as text, however long it is.
+    A number is held against the place as text, however long it is. A total may be the first line
+    where it is void, as that of no breaths is.
     """
     if name == TOTAL:
-        return place > 1
+        return place > 1 or columns == night.VOID_COLUMNS
     return name == str(place) and place <= night.MOST_LINES
 
 
@@ -92,11 +93,12 @@ def print_words(words, total):
     """The listing of the breaths' words and the total's, as bytes; stops 14 and 15."""
     listed = []
     for place, (name, word) in enumerate(named(words, total), 1):
-        if not in_sequence(name, place):
+        columns = columns_of(word)
+        if not in_sequence(name, columns, place):
             raise Stop(OUT_OF_SEQUENCE, place)
-        if columns_of(word) is None:
+        if columns is None:
             raise Stop(BAD_WORD, place)
-        listed.append(night.tabbed(name, columns_of(word)))
+        listed.append(night.tabbed(name, columns))
     return "".join(listed).encode("ascii")
 
 

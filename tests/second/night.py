@@ -1,4 +1,4 @@
-"""The listing of a night's recording, from documents 00 and 01 and CR 1 of 02 alone."""
+"""The listing of a night's recording, from documents 00 and 01 and CRs 1 and 3 of 02 alone."""
 
 from fractions import Fraction
 from functools import lru_cache
@@ -6,12 +6,11 @@ from functools import lru_cache
 import slash
 from slash import FIXED, Format, Stop
 
-# Numbers of the stops that the recording can cause.
+# Numbers of the stops that the recording can cause. 12, which CR 3 took away, stays reserved.
 TOO_MANY_LINES = 8
 BAD_LINE_END = 9
 NOT_THREE_FIELDS = 10
 BAD_NUMBER = 11
-NO_LINE = 12
 
 # What a recording may hold at most.
 MOST_LINES = 65536
@@ -46,9 +45,7 @@ def listing(recording):
 
 
 def lines_of(recording):
-    """Each line and its number from 1, without its line feed; stops 12, 8, 9."""
-    if not recording:
-        raise Stop(NO_LINE, 1)
+    """Each line and its number from 1, without its line feed; stops 8 and 9."""
     number, start = 1, 0
     while start < len(recording):
         if number > MOST_LINES:

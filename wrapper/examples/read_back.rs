@@ -1,17 +1,22 @@
 //! Reads back the listing of a night, of which the recording wasn't kept: each breath's number and word,
-//! and the total's word. Then tries one in which a percentage was changed.
+//! and the total's word. Then that of a recorder that was never worn, and one in which a percentage was
+//! changed.
 
 use slash::{Loaded, Stop};
+
+/// A word as it is printed here.
+fn shown(word: u64) -> String {
+    format!("word {word:08x}{}", if word == 0 { ", void" } else { "" })
+}
 
 /// Prints what a listing says, or why it is refused.
 fn print_loaded(listing: &str) {
     match slash::load(listing.as_bytes()) {
         Ok(Loaded { words, total }) => {
             for (number, word) in (1..).zip(words) {
-                let void = if word == 0 { ", void" } else { "" };
-                println!("breath {number}: word {word:08x}{void}");
+                println!("breath {number}: {}", shown(word));
             }
-            println!("the night: word {total:08x}");
+            println!("the night: {}", shown(total));
         }
         Err(Stop { number, place }) => {
             println!("the listing: stop {number} at line {place}, nothing is read back")
@@ -26,6 +31,9 @@ fn main() {
                    3\t00000000\t-\t-\n\
                    all\t012502aa\t293/682\t43.0\n";
     print_loaded(listing);
+
+    // And what it printed for a night with nothing in it: no breath, and a void total.
+    print_loaded("all\t00000000\t-\t-\n");
 
     // 2/5 is 40.0 percent, and nothing else.
     print_loaded(&listing.replace("40.0", "41.0"));

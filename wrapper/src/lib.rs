@@ -27,8 +27,8 @@ impl Format {
     }
 }
 
-/// A refused call: the stop's number, from 1 to 15, and its place: the index in a vector, the line of a
-/// recording or a listing, else 0.
+/// A refused call: the stop's number, from 1 to 15 but never 12, and its place: the index in a vector, the
+/// line of a recording or a listing, else 0.
 #[derive(Clone, Copy, Debug, PartialEq, Eq)]
 pub struct Stop {
     pub number: u8,
@@ -61,9 +61,8 @@ impl fmt::Display for Stop {
             9 => "over 32 bytes before the line feed, or no line feed",
             10 => "not three fields",
             11 => "a field is not a tick mark",
-            12 => "no line at all",
             13 => "a line without the shape of a listed one",
-            14 => "a number out of sequence, or `all` first, missing or not last",
+            14 => "a number out of sequence, or `all` missing, not last, or first and not the void line",
             15 => "a word that no listing has, or columns of another",
             _ => "unknown stop",
         };
@@ -218,7 +217,8 @@ pub fn convert_each(
     })
 }
 
-/// The listing of a night's recording, as the program `night` prints it; stops 8 to 12 with the line.
+/// The listing of a night's recording, as the program `night` prints it; stops 8 to 11 with the line. A
+/// recording without a byte is a night with nothing in it: `all`, void.
 ///
 /// The line is the first bad one, from 1. Those before it are good: they have a listing of their own.
 pub fn night(recording: &[u8]) -> Result<Vec<u8>, Stop> {
@@ -239,7 +239,8 @@ pub struct Loaded {
 
 /// Reads a printed listing back; stops 13, 14 and 15 with the line, which is the first bad one, from 1.
 ///
-/// Breath i + 1 has the word at index i. Whether the total follows from the breaths isn't judged.
+/// Breath i + 1 has the word at index i. The listing of no breaths is the line `all`, void. Otherwise
+/// whether the total follows from the breaths isn't judged.
 pub fn load(listing: &[u8]) -> Result<Loaded, Stop> {
     // As long as any listing asks for, so that 7 never occurs.
     let (mut numbers, mut words) = (vec![0; raw::MOST_BREATHS], vec![0; raw::MOST_BREATHS]);

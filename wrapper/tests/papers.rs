@@ -134,6 +134,9 @@ fn a_night_is_listed_as_the_paper_prints_it() {
 
 const GOOD: &[u8] = b"0\t277\t642\n";
 
+/// The listing of a night with nothing in it.
+const NOTHING: &[u8] = b"all\t00000000\t-\t-\n";
+
 /// What the archive returns for a recording, with the length and the bytes that it was lent.
 fn lent_to_night(recording: &[u8]) -> (u64, u64, Vec<u8>) {
     let (mut length, mut listing) = (LENT_LENGTH, vec![LENT_BYTE; raw::LISTING_BYTES]);
@@ -169,13 +172,43 @@ fn a_refused_recording_stops_at_its_line_and_leaves_what_is_lent() {
     refused(11, 2, &[GOOD, b"0\t277\t4294967296\n"]);
     refused(11, 2, &[GOOD, b"0\t0277\t642\n", b"\n"]);
     refused(11, 1, &[b"0\t\t642\n"]);
-    refused(12, 1, &[]);
+}
+
+#[test]
+fn a_night_with_nothing_in_it_is_listed_and_read_back() {
+    assert_eq!(slash::night(b"").as_deref(), Ok(NOTHING));
+    let loaded = Loaded {
+        words: vec![],
+        total: 0,
+    };
+    assert_eq!(slash::load(NOTHING), Ok(loaded));
+    let mut lent = Lent::of_lengths(0, 1);
+    assert_eq!(lent.load(NOTHING), 0);
+    assert_eq!((&lent.numbers[..], &lent.words[..]), (&[][..], &[9][..]));
+    assert_eq!((lent.count, lent.total), (0, 0));
+}
+
+#[test]
+fn a_first_line_all_that_differs_from_it_is_refused() {
+    let refused = |text: &[u8], stop: u64| {
+        let before = Lent::of_lengths(2, 3);
+        let mut lent = before.clone();
+        assert_eq!(lent.load(text), stop);
+        assert_eq!(lent, before);
+    };
+    refused(b"all\t00010002\t1/2\t50.0\n", 256 + 14);
+    refused(b"all\t00000000\t0/1\t0.0\n", 256 + 14);
+    refused(b"all\t00000001\t-\t-\n", 256 + 14);
+    refused(b"all\t00000000\t-\n", 256 + 13);
+    refused(&NOTHING.repeat(2), 2 * 256 + 14);
+    refused(&[NOTHING, b"\n"].concat(), 2 * 256 + 13);
+    refused(b"", 256 + 14);
 }
 
 #[test]
 fn a_listing_keeps_what_lies_beyond_it() {
     let widest = b"4294966653\t4294966930\t4294967295\n";
-    for recording in [GOOD.to_vec(), widest.to_vec(), GOOD.repeat(65_536)] {
+    for recording in [vec![], GOOD.to_vec(), widest.to_vec(), GOOD.repeat(65_536)] {
         let expected = slash::night(&recording).expect("a listing");
         let (returned, length, listing) = lent_to_night(&recording);
         assert_eq!((returned, length), (0, expected.len() as u64));

@@ -48,7 +48,9 @@ fn check(text: &[u8]) -> Result<(usize, u32), u64> {
         };
         (line, rest) = (line + 1, &rest[used..]);
     }
-    let Some((total, used)) = next_line(Name::All, rest).filter(|_| line > 1) else {
+    // The total of no breaths is void.
+    let is_total = |&(total, _): &(u32, usize)| line > 1 || total == 0;
+    let Some((total, used)) = next_line(Name::All, rest).filter(is_total) else {
         return Err(stop(line, rest, false));
     };
     let behind = &rest[used..];

@@ -132,12 +132,10 @@ fn next_line<T>(
     rest: &[u8],
     read: impl Fn(&[u8; MOST_BYTES]) -> Option<T>,
 ) -> Result<T, End> {
-    let number = if rest.is_empty() {
-        if line > 1 {
-            return Err(End::Closed);
-        }
-        12
-    } else if line > MOST_BREATHS {
+    if rest.is_empty() {
+        return Err(End::Closed);
+    }
+    let number = if line > MOST_BREATHS {
         8
     } else if let Some(found) = in_window(rest, read) {
         return Ok(found);

@@ -6,7 +6,7 @@ ghost use Rattle.ffi.specs.Status.{status, behind};
 use crate::status::store;
 
 // The listing stands at the start of the lent array, and its length behind the pointer. Stops 8 to
-// 12, at a line.
+// 11, at a line.
 #[no_mangle]
 pub extern "C" fn slash_night(
     recording: &[u8],

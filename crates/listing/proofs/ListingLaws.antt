@@ -123,7 +123,7 @@ lines-length (suc steps) night bs r e = go (nextOf (night .line) bs) refl (λ n 
     go (done theEnd) n ih = omega (arith, ap length (listing-end steps night bs n), last-length (night .sums) (r .proper))
     go (stop number place) n ih =
         let w = follows-stop (night .line) bs n in
-        let short : length (refusedLine number place) ≤ 17 = refused-length number place 1 4 (omega (arith, w .1)) (omega (arith, w .2, r .few)) in
+        let short : length (refusedLine number place) ≤ 17 = refused-length number place 1 4 (omega (arith, w .0 .1)) (omega (arith, w .1, r .few)) in
         omega (arith, ap length (listing-stop steps night bs n), short)
 
 pub listing-length : (bs : List ℕ) → length (listingOf bs) ≤ 2162719

@@ -1,4 +1,5 @@
 -- The whole of a recording in one piece, and what `list` answers (`list-done`, `list-stopped`). Assumes nothing.
+-- `night-stops`: where it stops, it stops as a recording can.
 use mathlib.Core.Path.{_≡_, refl, sym, ap, _∙_}
 use mathlib.Core.Bool.{true}
 use mathlib.Core.List.{List, _++_}
@@ -9,11 +10,11 @@ use Rattle.slash.specs.Answers.{Outcome, stop, done, _then_, completionOutcome}
 use Rattle.slash.specs.declared.answer.Stop.{Stop}
 use Rattle.slash.specs.declared.answer.Completion.{Completion}
 use Rattle.slash.specs.declared.answer.Completion.the-variants as Completion
-use Rattle.slash.proofs.AnswerLaws.{no-stop}
+use Rattle.slash.proofs.AnswerLaws.{no-stop, then-stopped}
 use Rattle.breaths.specs.declared.breath.Breath.{Breath}
 use Rattle.text.specs.Stores.{atStart, lengthOf, listAfter}
-use Rattle.recording.specs.Reading.{Coming, aBreath, theEnd, nextOf, checkFrom, recordingCheck}
-use Rattle.recording.proofs.ReadingLaws.{check-more, check-stop}
+use Rattle.recording.specs.Reading.{Coming, aBreath, theEnd, nextOf, checkFrom, recordingCheck, RecordingStop}
+use Rattle.recording.proofs.ReadingLaws.{check-more, check-stop, check-stops}
 use Rattle.listing.specs.Listing.{breathLine, allLine, listingFrom, listingOn, listingOf, nightOutcome, BestNight}
 use Rattle.listing.specs.Nights.{begun, withLine}
 use Rattle.listing.specs.Pieces.{ListedPiece, endsHere, lineThen, isSure, pieceFrom, pieceOf, answerOf}
@@ -89,6 +90,10 @@ whole-listing bs good =
 night-is : (bs : List ℕ) (o : Outcome (Unit {0})) → o ≡ recordingCheck bs → (o then λ _. done (listingOf bs)) ≡ nightOutcome bs
 unfolding nightOutcome
 night-is bs o e = ap (λ (p : Outcome (Unit {0})). p then λ _. done (listingOf bs)) e
+
+pub night-stops : (bs : List ℕ) (number place : ℕ) → nightOutcome bs ≡ stop number place → RecordingStop number place
+unfolding nightOutcome
+night-stops bs number place e = check-stops bs number place (sym (then-stopped (listingOf bs) (recordingCheck bs) (sym e)))
 
 pub list-done : (bs o o′ : List ℕ) (p : Piece) (c : Completion) → completionOutcome c ≡ recordingCheck bs → c ≡ Completion.Done → length o ≡ 2162719
     → (night : Night) → night ≡ begun → Answers (pieceOf night bs true (length o)) o o′ p

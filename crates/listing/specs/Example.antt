@@ -1,4 +1,4 @@
--- The paper's example: a recording, and its listing.
+-- The paper's example: a recording, and its listing; and the listing of a night with nothing in it.
 use Prim.Native.Nat.{ℕ}
 use mathlib.Core.List.{List, [], _∷_, _++_}
 
@@ -16,3 +16,7 @@ exampleListing =
     ++ (50 ∷ 9 ∷ 48 ∷ 48 ∷ 48 ∷ 50 ∷ 48 ∷ 48 ∷ 48 ∷ 53 ∷ 9 ∷ 50 ∷ 47 ∷ 53 ∷ 9 ∷ 52 ∷ 48 ∷ 46 ∷ 48 ∷ 10 ∷ [])
     ++ (51 ∷ 9 ∷ 48 ∷ 48 ∷ 48 ∷ 48 ∷ 48 ∷ 48 ∷ 48 ∷ 48 ∷ 9 ∷ 45 ∷ 9 ∷ 45 ∷ 10 ∷ [])
     ++ (97 ∷ 108 ∷ 108 ∷ 9 ∷ 48 ∷ 49 ∷ 50 ∷ 53 ∷ 48 ∷ 50 ∷ 97 ∷ 97 ∷ 9 ∷ 50 ∷ 57 ∷ 51 ∷ 47 ∷ 54 ∷ 56 ∷ 50 ∷ 9 ∷ 52 ∷ 51 ∷ 46 ∷ 48 ∷ 10 ∷ [])
+
+-- all 00000000 - -, the same way.
+unfoldable pub emptyListing : List ℕ
+emptyListing = 97 ∷ 108 ∷ 108 ∷ 9 ∷ 48 ∷ 48 ∷ 48 ∷ 48 ∷ 48 ∷ 48 ∷ 48 ∷ 48 ∷ 9 ∷ 45 ∷ 9 ∷ 45 ∷ 10 ∷ []

@@ -411,7 +411,8 @@ count-done (done l) c e =
     let i : c ≡ record { breaths = length (l .words); total = l .total } = done-inj e in
     record { listing = l; is = refl; count = ap (λ (x : Counted). x .breaths) i; total-is = ap (λ (x : Counted). x .total) i }
 
-count-stop : (o : Outcome Listing) (number place : ℕ) → stop number place ≡ countOf o → o ≡ stop number place
+-- what stopped counting stopped loading
+pub count-stop : (o : Outcome Listing) (number place : ℕ) → stop number place ≡ countOf o → o ≡ stop number place
 unfolding countOf
 count-stop (stop m q) number place e = stop-same e
   where

@@ -14,15 +14,23 @@ use lib.ListN.{length, getD, take, drop, set, length-set, length-append, length-
 use lib.Seq.{take-suc, take-suc-set, take-all, take-length, take-at, take-take, drop-cons, length-take-le}
 use borrow.Author.Tests.{eq-eqb, ne-eqb, le-leb, lt-leb, leb-true, eqb-false, not-true, not-false}
 use Rattle.convergents.specs.Choice.{if_then_else_}
+use Rattle.convergents.specs.Pairs.{differs}
+use Rattle.convergents.specs.Convergents.{euclid, quotients, recurrence, convergents}
+use Rattle.convergents.specs.Rounding.{held, lastHeld, round}
 use Rattle.slash.specs.Answers.{Outcome, stop, done}
+use Rattle.slash.specs.Bits.{bits, bit, bitOf, wordOfFields}
+use Rattle.slash.specs.Formats.{holds}
+use Rattle.slash.specs.Reading.{fixedValue, fixedNumber, numberOf}
+use Rattle.slash.specs.Writing.{fixedWord, pairWord, wordFor}
+use Rattle.slash.specs.Numbers.{pairOf}
 use Rattle.slash.proofs.AnswerLaws.{done-inj, no-stop}
-use Rattle.breaths.specs.Ratios.{wordOf, ratioOf}
+use Rattle.breaths.specs.Ratios.{wordOf, ratioOf, fractionOf}
 use Rattle.breaths.specs.declared.ratio.Ratio.{Ratio}
 use Rattle.breaths.specs.declared.ratio.Ratio.the-variants.{Void}
 use Rattle.breaths.proofs.RatioLaws.{of-zero, of-some, word-of-ratio}
 use Rattle.text.specs.Numbers.{lineFeed, decimalFrom, decimal, hexDigit, hexadecimal}
 use Rattle.text.specs.Scan.{isDigit, same, lengthBefore, parted}
-use Rattle.text.specs.Columns.{fractionAndPercentage, columns}
+use Rattle.text.specs.Columns.{thousandths, percentage, fractionText, fractionAndPercentage, columns}
 use Rattle.text.specs.Lines.{nameText, lineOf, isName, isPrintable, lineIn}
 use Rattle.text.specs.Stores.{Stored, put}
 use Rattle.text.specs.declared.line.Name.{Name}
@@ -39,12 +47,23 @@ use Rattle.shapes.specs.declared.shape.Shape.the-variants.{Line, Other}
 use Rattle.shapes.proofs.FieldLaws.{whole-decimal}
 use Rattle.shapes.proofs.WordLaws.{hex-low, hex-high}
 use Rattle.shapes.proofs.ShapeLaws.{bodyOf, line-shaped, line-free, name-within}
-use Rattle.loading.specs.Listable.{listable}
-use Rattle.loading.specs.Lines.{Entry, breath, total, agreeing, inSequence, entryOf}
+use Rattle.loading.specs.Listable.{isCanonical, listable}
+use Rattle.loading.specs.Lines.{Entry, breath, total, agreeing, totalAt, inSequence, entryOf}
 use Rattle.loading.specs.Steps.{digitValue, wordFrom, begins, lineThere}
-use Rattle.loading.proofs.ListableLaws.{listable-small, listable-printable}
+use Rattle.loading.proofs.ListableLaws.{listable-zero, listable-small, listable-printable}
 
--- ---- an example
+-- ---- examples
+
+-- `all` as the first line, of another total than void: 14. (The bytes of all, 00010002, 1/2 and 50.0, tab-parted. What makes and prints a word
+-- is unfolded so that a definition which takes this line is shown to take it.)
+pub other-total-first : (let line : List ℕ = 97 ∷ 108 ∷ 108 ∷ 9 ∷ 48 ∷ 48 ∷ 48 ∷ 49 ∷ 48 ∷ 48 ∷ 48 ∷ 50 ∷ 9 ∷ 49 ∷ 47 ∷ 50 ∷ 9 ∷ 53 ∷ 48 ∷ 46 ∷ 48 ∷ [] in entryOf 1 (shapeOf line) line ≡ stop 14 1)
+unfolding shapeOf shapeOfFields parted isNamed isWhole every isDigit isWord isHexDigit wordIn hexFrom hexValue inTwo areColumns isFraction areWholes isDecimal areWholeAndPlace isPlace same nameText entryOf inSequence totalAt decimal decimalFrom listable isPrintable isCanonical ratioOf fractionOf lineOf columns hexadecimal hexDigit fractionAndPercentage fractionText percentage thousandths wordOf wordFor pairWord fixedWord wordOfFields bitOf pairOf numberOf fixedNumber fixedValue bits bit round lastHeld held convergents recurrence quotients euclid differs holds
+other-total-first = refl
+
+-- The void one: taken. (Those of all, 00000000 and two hyphens.)
+pub void-total-first : (let line : List ℕ = 97 ∷ 108 ∷ 108 ∷ 9 ∷ 48 ∷ 48 ∷ 48 ∷ 48 ∷ 48 ∷ 48 ∷ 48 ∷ 48 ∷ 9 ∷ 45 ∷ 9 ∷ 45 ∷ [] in entryOf 1 (shapeOf line) line ≡ done (total 0))
+unfolding shapeOf shapeOfFields parted isNamed isWhole every isDigit isWord isHexDigit wordIn hexFrom hexValue inTwo areColumns same nameText entryOf inSequence totalAt listable ratioOf lineOf columns hexadecimal hexDigit fractionAndPercentage wordOf
+void-total-first = refl
 
 -- The line of a void breath with a fraction: 15. (The bytes of 1, 00000000, 0/1 and 0.0, tab-parted.)
 pub void-with-a-fraction : (let line : List ℕ = 49 ∷ 9 ∷ 48 ∷ 48 ∷ 48 ∷ 48 ∷ 48 ∷ 48 ∷ 48 ∷ 48 ∷ 9 ∷ 48 ∷ 47 ∷ 49 ∷ 9 ∷ 48 ∷ 46 ∷ 48 ∷ [] in entryOf 1 (shapeOf line) line ≡ stop 15 1)
@@ -96,17 +115,28 @@ module _ (n w : ℕ) (l : listable w ≡ true) where
   entry-breath h =
       in-entry (Number n) ∙ rw (number-not-all n, same-refl (nameText (Number n)), le-leb _ _ h) (agreed (Number n) (breath w))
 
-  pub entry-total : 2 ≤ n → entryOf n (shapeOf (bodyOf All (ratioOf w))) (bodyOf All (ratioOf w)) ≡ done (total w)
+  -- the first line's total is void
+  total-good : (n ≡ 1 → w ≡ 0) → totalAt n (bodyOf All (ratioOf w)) w ≡ done (total w)
+  unfolding totalAt
+  total-good h = go (ℕ-discrete n 1)
+    where
+      go : Dec (n ≡ 1)
+          → (if eqb n 1 then (if same (bodyOf All (ratioOf w) ++ lineFeed) (lineOf All Void) then done (total 0) else stop 14 n) else agreeing n (bodyOf All (ratioOf w)) All w (total w))
+          ≡ done (total w)
+      go (yes e) =
+          let line : bodyOf All (ratioOf w) ++ lineFeed ≡ lineOf All Void = body-line All (ratioOf w) ∙ ap (lineOf All) (sym (of-zero w (h e))) in
+          rw (eq-eqb n 1 e, line, same-refl (lineOf All Void)) (ap (λ (v : ℕ). done (total v)) (sym (h e)))
+      go (no e) = rw (ne-eqb n 1 e) (agreed All (total w))
+
+  pub entry-total : (n ≡ 1 → w ≡ 0) → entryOf n (shapeOf (bodyOf All (ratioOf w))) (bodyOf All (ratioOf w)) ≡ done (total w)
   unfolding inSequence
-  entry-total h =
-      let z : n ≡ 1 → ⊥ = λ e. omega arith in
-      in-entry All ∙ rw (same-refl (nameText All), ne-eqb n 1 z) (agreed All (total w))
+  entry-total h = in-entry All ∙ rw (same-refl (nameText All)) (total-good h)
 
 -- ---- and no other is
 
 abbrev pub Taken : ℕ → List ℕ → Entry → Type 0
 Taken n line (breath w) = (line ++ lineFeed ≡ lineOf (Number n) (ratioOf w)) × (listable w ≡ true) × (n ≤ 65536)
-Taken n line (total w) = (line ++ lineFeed ≡ lineOf All (ratioOf w)) × (listable w ≡ true) × (2 ≤ n)
+Taken n line (total w) = (line ++ lineFeed ≡ lineOf All (ratioOf w)) × (listable w ≡ true) × (n ≡ 1 → w ≡ 0)
 
 agreeing-only : (n : ℕ) (line : List ℕ) (name : Name) (w : ℕ) (e f : Entry) → agreeing n line name w e ≡ done f
     → (e ≡ f) × (listable w ≡ true) × (line ++ lineFeed ≡ lineOf name (ratioOf w))
@@ -119,28 +149,47 @@ agreeing-only n line name w e f h = go (listable w) refl (same (line ++ lineFeed
     go true i false j g = absurd (no-stop g)
     go false i t j g = absurd (no-stop g)
 
-sequence-only : (n : ℕ) (line a : List ℕ) (w : ℕ) (e : Entry) → 1 ≤ n → inSequence n line a w ≡ done e → Taken n line e
-unfolding inSequence
-sequence-only n line a w e p h = go (same a (nameText All)) (eqb n 1) refl (same a (nameText (Number n))) (leb n 65536) refl h
+total-only : (n : ℕ) (line : List ℕ) (w : ℕ) (e : Entry) → totalAt n line w ≡ done e → Taken n line e
+unfolding totalAt
+total-only n line w e h = go (eqb n 1) refl (same (line ++ lineFeed) (lineOf All Void)) refl h
   where
-    go : (s t : Bool) → eqb n 1 ≡ t → (u v : Bool) → leb n 65536 ≡ v
-        → (if s then (if t then stop 14 n else agreeing n line All w (total w)) else (if u && v then agreeing n line (Number n) w (breath w) else stop 14 n)) ≡ done e
+    go : (t : Bool) → eqb n 1 ≡ t → (s : Bool) → same (line ++ lineFeed) (lineOf All Void) ≡ s
+        → (if t then (if s then done (total 0) else stop 14 n) else agreeing n line All w (total w)) ≡ done e
         → Taken n line e
-    go true true j u v m g = absurd (no-stop g)
-    go true false j u v m g =
+    go true j true i g =
+        let void : line ++ lineFeed ≡ lineOf All (ratioOf 0) = same-is _ _ i ∙ ap (lineOf All) (of-zero 0 refl) in
+        subst (Taken n line) (done-inj g) (void, sym (listable-zero 0 refl), λ o. refl)
+    go true j false i g = absurd (no-stop g)
+    go false j s i g =
         let x = agreeing-only n line All w (total w) e g in
-        let z : n ≡ 1 → ⊥ = eqb-false _ _ j in
-        subst (Taken n line) (x .0) (x .2, x .1, omega arith)
-    go false t j true true m g =
+        subst (Taken n line) (x .0) (x .2, x .1, λ o. absurd (eqb-false n 1 j o))
+
+sequence-only : (n : ℕ) (line a : List ℕ) (w : ℕ) (e : Entry) → inSequence n line a w ≡ done e → Taken n line e
+unfolding inSequence
+sequence-only n line a w e h = go (same a (nameText All)) (same a (nameText (Number n))) (leb n 65536) refl h
+  where
+    go : (s u v : Bool) → leb n 65536 ≡ v
+        → (if s then totalAt n line w else (if u && v then agreeing n line (Number n) w (breath w) else stop 14 n)) ≡ done e
+        → Taken n line e
+    go true u v m g = total-only n line w e g
+    go false true true m g =
         let x = agreeing-only n line (Number n) w (breath w) e g in
         subst (Taken n line) (x .0) (x .2, x .1, leb-true _ _ m)
-    go false t j true false m g = absurd (no-stop g)
-    go false t j false v m g = absurd (no-stop g)
+    go false true false m g = absurd (no-stop g)
+    go false false v m g = absurd (no-stop g)
 
-pub entry-only : (n : ℕ) (s : Shape) (line : List ℕ) (e : Entry) → 1 ≤ n → entryOf n s line ≡ done e → Taken n line e
+pub entry-only : (n : ℕ) (s : Shape) (line : List ℕ) (e : Entry) → entryOf n s line ≡ done e → Taken n line e
 unfolding entryOf
-entry-only n Other line e p h = absurd (no-stop h)
-entry-only n (Line x) line e p h = sequence-only n line (take (x .name) line) (x .word) e p h
+entry-only n Other line e h = absurd (no-stop h)
+entry-only n (Line x) line e h = sequence-only n line (take (x .name) line) (x .word) e h
+
+-- `all` as the first line, which has the shape and isn't that of no breaths: 14.
+pub first-other : (line : List ℕ) (x : Said) → shapeOf line ≡ Line x → take (x .name) line ≡ nameText All → (line ++ lineFeed ≡ lineOf All Void → ⊥)
+    → entryOf 1 (shapeOf line) line ≡ stop 14 1
+unfolding entryOf inSequence totalAt
+first-other line x s n d =
+    ap (λ (y : Shape). entryOf 1 y line) s ∙ ap (λ (u : List ℕ). inSequence 1 line u (x .word)) n
+    ∙ rw (same-refl (nameText All), same-differ (line ++ lineFeed) (lineOf All Void) d) refl
 
 -- ---- how many digits a number has
 
@@ -519,6 +568,40 @@ module _ (text : List ℕ) (name : Name) (w r : ℕ) (re : r ≡ lineThere text 
 
 -- ---- a line in its sequence
 
+module _ (text : List ℕ) (k : ℕ) (ke : k ≡ lengthBefore 10 text) (within : k < length text) (w n : ℕ) where
+  agreed-as : (name : Name) (e : Entry) (b : Bool) → begins text name w ≡ b → agreeing n (take k text) name w e ≡ (if b then done e else stop 15 n)
+  unfolding agreeing
+  agreed-as name e b h = rw (← there-agrees text k ke within name w, h) refl
+
+  -- `all` as the first line
+  module _ (e : n ≡ 1) (r : ℕ) (re : r ≡ lineThere text All 0) where
+    void-as : (b : Bool) → begins text All 0 ≡ b → same (take k text ++ lineFeed) (lineOf All Void) ≡ b
+    void-as b h =
+        let agrees : begins text All 0 ≡ same (take k text ++ lineFeed) (lineOf All (ratioOf 0)) =
+        there-agrees text k ke within All 0 ∙ rw (← listable-zero 0 refl) refl
+        in
+        ap (λ (x : Ratio). same (take k text ++ lineFeed) (lineOf All x)) (of-zero 0 refl) ∙ sym agrees ∙ h
+
+    pub total-first-not : r ≡ 0 → stop 14 n ≡ totalAt n (take k text) w
+    unfolding totalAt
+    total-first-not z = sym (rw (eq-eqb n 1 e, void-as false (there-none text All 0 r re z)) refl)
+
+    pub total-first : (r ≡ 0 → ⊥) → done (total 0) ≡ totalAt n (take k text) w
+    unfolding totalAt
+    total-first z = sym (rw (eq-eqb n 1 e, void-as true (there-some text All 0 r re z .0)) refl)
+
+  -- and behind a breath's
+  module _ (m : n ≡ 1 → ⊥) (r : ℕ) (re : r ≡ lineThere text All w) where
+    of-total : totalAt n (take k text) w ≡ agreeing n (take k text) All w (total w)
+    unfolding totalAt
+    of-total = rw (ne-eqb n 1 m) refl
+
+    pub total-later-not : r ≡ 0 → stop 15 n ≡ totalAt n (take k text) w
+    total-later-not z = sym (of-total ∙ agreed-as All (total w) false (there-none text All w r re z))
+
+    pub total-later : (r ≡ 0 → ⊥) → done (total w) ≡ totalAt n (take k text) w
+    total-later z = sym (of-total ∙ agreed-as All (total w) true (there-some text All w r re z .0))
+
 module _ (text : List ℕ) (k : ℕ) (ke : k ≡ lengthBefore 10 text) (within : k < length text) (i : ℕ) (ik : i ≤ k) (w n : ℕ) where
   abbrev first : List ℕ
   first = take i (take k text)
@@ -526,29 +609,13 @@ module _ (text : List ℕ) (k : ℕ) (ke : k ≡ lengthBefore 10 text) (within :
   as-taken : take i text ≡ take i (take k text)
   as-taken = sym (take-take i k text ik)
 
-  agreed-as : (name : Name) (e : Entry) (b : Bool) → begins text name w ≡ b → agreeing n (take k text) name w e ≡ (if b then done e else stop 15 n)
-  unfolding agreeing
-  agreed-as name e b h = rw (← there-agrees text k ke within name w, h) refl
-
   module _ (s : Bool) (se : s ≡ same (take i text) (97 ∷ 108 ∷ 108 ∷ [])) where
     all-is : (b : Bool) → s ≡ b → same first (nameText All) ≡ b
     all-is b e = ap (λ (u : List ℕ). same u (nameText All)) (sym as-taken) ∙ ap (same (take i text)) (sym (name-all All refl)) ∙ sym se ∙ e
 
-    module _ (is : s ≡ true) where
-      pub sequence-first : n ≡ 1 → stop 14 n ≡ inSequence n (take k text) (take i (take k text)) w
-      unfolding inSequence
-      sequence-first e = sym (rw (all-is true is, eq-eqb n 1 e) refl)
-
-      module _ (m : n ≡ 1 → ⊥) (r : ℕ) (re : r ≡ lineThere text All w) where
-        of-all : inSequence n (take k text) (take i (take k text)) w ≡ agreeing n (take k text) All w (total w)
-        unfolding inSequence
-        of-all = rw (all-is true is, ne-eqb n 1 m) refl
-
-        pub sequence-total-not : r ≡ 0 → stop 15 n ≡ inSequence n (take k text) (take i (take k text)) w
-        sequence-total-not z = sym (of-all ∙ agreed-as All (total w) false (there-none text All w r re z))
-
-        pub sequence-total : (r ≡ 0 → ⊥) → done (total w) ≡ inSequence n (take k text) (take i (take k text)) w
-        sequence-total z = sym (of-all ∙ agreed-as All (total w) true (there-some text All w r re z .0))
+    pub sequence-total : s ≡ true → totalAt n (take k text) w ≡ inSequence n (take k text) (take i (take k text)) w
+    unfolding inSequence
+    sequence-total is = sym (rw (all-is true is) refl)
 
     module _ (isnt : s ≡ false) where
       pub sequence-many : 65536 < n → stop 14 n ≡ inSequence n (take k text) (take i (take k text)) w
@@ -571,10 +638,10 @@ module _ (text : List ℕ) (k : ℕ) (ke : k ≡ lengthBefore 10 text) (within :
           of-number = rw (all-is false isnt, number-is true (not-false t g), le-leb n 65536 few) refl
 
           pub sequence-breath-not : r ≡ 0 → stop 15 n ≡ inSequence n (take k text) (take i (take k text)) w
-          sequence-breath-not z = sym (of-number ∙ agreed-as (Number n) (breath w) false (there-none text (Number n) w r re z))
+          sequence-breath-not z = sym (of-number ∙ agreed-as text k ke within w n (Number n) (breath w) false (there-none text (Number n) w r re z))
 
           pub sequence-breath : (r ≡ 0 → ⊥) → done (breath w) ≡ inSequence n (take k text) (take i (take k text)) w
-          sequence-breath z = sym (of-number ∙ agreed-as (Number n) (breath w) true (there-some text (Number n) w r re z .0))
+          sequence-breath z = sym (of-number ∙ agreed-as text k ke within w n (Number n) (breath w) true (there-some text (Number n) w r re z .0))
 
 -- ---- a line
 

@@ -2,7 +2,7 @@
 -- `print-listing`: words are printed just where they are those of a listing. `print-loaded`: and what is printed is loaded as them again.
 -- `checking-end`, `putting-end`: what the loops over the words come to.
 use mathlib.Core.Path.{_≡_, refl, sym, ap, _∙_, subst}
-use mathlib.Core.Bool.{Bool, true, false, not}
+use mathlib.Core.Bool.{Bool, true, false, not, _&&_, and-false, false≢true}
 use mathlib.Core.List.{List, [], _∷_, _++_}
 use Prim.Native.Nat.{ℕ, zero, suc, _+_, _-_, _*_, _≤_, _<_}
 use native.Mathlib.Omega.{arith}
@@ -11,7 +11,7 @@ use native.Mathlib.Decide.{ℕ-discrete}
 use lib.Dec.{eqb, leb}
 use lib.ListN.{length, getD, drop, length-append}
 use lib.Seq.{drop-cons}
-use borrow.Author.Tests.{eq-eqb, ne-eqb, le-leb, lt-leb, leb-true, eqb-false, not-true, not-false}
+use borrow.Author.Tests.{eq-eqb, ne-eqb, le-leb, lt-leb, leb-true, not-true, not-false}
 use Rattle.convergents.specs.Choice.{if_then_else_}
 use Rattle.slash.specs.Answers.{Outcome, stop, done, _then_, completionOutcome}
 use Rattle.slash.specs.declared.answer.Stop.{Stop}
@@ -34,7 +34,7 @@ use Rattle.loading.proofs.LoadLaws.{listing, load-printed}
 
 -- ---- which words are printed
 
-check-end : (n t : ℕ) → printCheck n [] t ≡ (if eqb n 1 then stop 14 n else if listable t then done tt else stop 15 n)
+check-end : (n t : ℕ) → printCheck n [] t ≡ (if eqb n 1 && not (eqb t 0) then stop 14 n else if listable t then done tt else stop 15 n)
 unfolding printCheck
 check-end n t = refl
 
@@ -44,23 +44,36 @@ check-more n w ws t = refl
 
 -- from line n on
 record ListedFrom (n : ℕ) (ws : List ℕ) (t : ℕ) : Type 0 where
-  some : 2 ≤ n + length ws
   few : n + length ws ≤ 65537
   words-are : AllListable ws
   total-is : listable t ≡ true
+  void-of-none : n + length ws ≡ 1 → t ≡ 0
 
-check-only : (ws : List ℕ) (n t : ℕ) → 1 ≤ n → n ≤ 65537 → printCheck n ws t ≡ done tt → ListedFrom n ws t
-check-only [] n t p q h = go (eqb n 1) refl (listable t) refl (sym (check-end n t) ∙ h)
+-- a total that is the first line's is void
+first-is-void : (n t : ℕ) → (eqb n 1 && not (eqb t 0)) ≡ false → n ≡ 1 → t ≡ 0
+first-is-void n t h e = go (ℕ-discrete t 0)
   where
-    go : (a : Bool) → eqb n 1 ≡ a → (b : Bool) → listable t ≡ b
+    go : Dec (t ≡ 0) → t ≡ 0
+    go (yes z) = z
+    go (no z) = absurd (false≢true (sym h ∙ rw (eq-eqb n 1 e, ne-eqb t 0 z) refl))
+
+may-be-first : (n t : ℕ) → (n ≡ 1 → t ≡ 0) → (eqb n 1 && not (eqb t 0)) ≡ false
+may-be-first n t h = go (ℕ-discrete n 1)
+  where
+    go : Dec (n ≡ 1) → (eqb n 1 && not (eqb t 0)) ≡ false
+    go (yes e) = rw (eq-eqb t 0 (h e)) (and-false (eqb n 1))
+    go (no e) = rw (ne-eqb n 1 e) refl
+
+check-only : (ws : List ℕ) (n t : ℕ) → n ≤ 65537 → printCheck n ws t ≡ done tt → ListedFrom n ws t
+check-only [] n t q h = go (eqb n 1 && not (eqb t 0)) refl (listable t) refl (sym (check-end n t) ∙ h)
+  where
+    go : (a : Bool) → (eqb n 1 && not (eqb t 0)) ≡ a → (b : Bool) → listable t ≡ b
         → _≡_ {A = Outcome (Unit {0})} (if a then stop 14 n else if b then done tt else stop 15 n) (done tt)
         → ListedFrom n [] t
     go true e b f g = absurd (no-stop g)
-    go false e true f g =
-        let z : n ≡ 1 → ⊥ = eqb-false _ _ e in
-        record { some = omega arith; few = omega arith; words-are = tt; total-is = f }
+    go false e true f g = record { few = omega arith; words-are = tt; total-is = f; void-of-none = λ o. first-is-void n t e (omega arith) }
     go false e false f g = absurd (no-stop g)
-check-only (w ∷ ws) n t p q h = go (leb n 65536) refl (listable w) refl (sym (check-more n w ws t) ∙ h) (λ l i. check-only ws (suc n) t (omega arith) l i)
+check-only (w ∷ ws) n t q h = go (leb n 65536) refl (listable w) refl (sym (check-more n w ws t) ∙ h) (λ l i. check-only ws (suc n) t l i)
   where
     go : (a : Bool) → leb n 65536 ≡ a → (b : Bool) → listable w ≡ b
         → (if a then (if b then printCheck (suc n) ws t else stop 15 n) else stop 14 n) ≡ done tt
@@ -69,27 +82,27 @@ check-only (w ∷ ws) n t p q h = go (leb n 65536) refl (listable w) refl (sym (
     go true e true f g ih =
         let l : n ≤ 65536 = leb-true _ _ e in
         let r = ih (omega arith) g in
-        record { some = omega (arith, r .some); few = omega (arith, r .few); words-are = (f, r .words-are); total-is = r .total-is }
+        record { few = omega (arith, r .few); words-are = (f, r .words-are); total-is = r .total-is; void-of-none = λ o. r .void-of-none (omega arith) }
     go true e false f g ih = absurd (no-stop g)
     go false e b f g ih = absurd (no-stop g)
 
-check-good : (ws : List ℕ) (n t : ℕ) → AllListable ws → listable t ≡ true → 2 ≤ n + length ws → n + length ws ≤ 65537 → printCheck n ws t ≡ done tt
-check-good [] n t a l h k = let z : n ≡ 1 → ⊥ = λ e. omega arith in check-end n t ∙ rw (ne-eqb n 1 z, l) refl
+check-good : (ws : List ℕ) (n t : ℕ) → AllListable ws → listable t ≡ true → (n + length ws ≡ 1 → t ≡ 0) → n + length ws ≤ 65537 → printCheck n ws t ≡ done tt
+check-good [] n t a l h k = check-end n t ∙ rw (may-be-first n t (λ e. h (omega arith)), l) refl
 check-good (w ∷ ws) n t a l h k =
     let m : n ≤ 65536 = omega arith in
-    check-more n w ws t ∙ rw (le-leb _ _ m, a .0) (check-good ws (suc n) t (a .1) l (omega arith) (omega arith))
+    check-more n w ws t ∙ rw (le-leb _ _ m, a .0) (check-good ws (suc n) t (a .1) l (λ e. h (omega arith)) (omega arith))
 
 -- Words are printed just where they are those of a listing.
 pub check-listing : (ws : List ℕ) (t : ℕ) → printCheck 1 ws t ≡ done tt → IsListing ws t
 check-listing ws t h =
-    let r = check-only ws 1 t (omega arith) (omega arith) h in
-    record { some = omega (arith, r .some); few = omega (arith, r .few); words-are = r .words-are; total-is = r .total-is }
+    let r = check-only ws 1 t (omega arith) h in
+    record { few = omega (arith, r .few); words-are = r .words-are; total-is = r .total-is; void-of-none = λ e. r .void-of-none (omega arith) }
 
 pub print-listing : (ws : List ℕ) (t : ℕ) → IsListing ws t → printOutcome ws t ≡ done (printed ws t)
 unfolding printOutcome
 print-listing ws t i =
     ap (λ (o : Outcome (Unit {0})). o then λ _. done (printed ws t))
-    (check-good ws 1 t (i .words-are) (i .total-is) (omega (arith, i .some)) (omega (arith, i .few)))
+    (check-good ws 1 t (i .words-are) (i .total-is) (λ e. i .void-of-none (omega arith)) (omega (arith, i .few)))
 
 -- What is printed is loaded as the words again.
 pub print-loaded : (ws : List ℕ) (t : ℕ) (text : List ℕ) → printOutcome ws t ≡ done text → load text ≡ done (listing ws t)
@@ -139,24 +152,24 @@ module _ {ws : List ℕ} {t i : ℕ} (c : Checking ws t i) where
           }
 
   module _ (l : length ws ≤ i) where
-    last : printCheck 1 ws t ≡ (if eqb (i + 1) 1 then stop 14 (i + 1) else if listable t then done tt else stop 15 (i + 1))
+    last : printCheck 1 ws t ≡ (if eqb (i + 1) 1 && not (eqb t 0) then stop 14 (i + 1) else if listable t then done tt else stop 15 (i + 1))
     last =
         c .whole ∙ ap (λ (us : List ℕ). printCheck (i + 1) us t) (drop-past ws i (omega (arith, c .within))) ∙ check-end (i + 1) t
 
-    pub checking-none : i ≡ 0 → stop 14 1 ≡ printCheck 1 ws t
-    checking-none z =
+    pub checking-none : i ≡ 0 → (t ≡ 0 → ⊥) → stop 14 1 ≡ printCheck 1 ws t
+    checking-none z v =
         let e : i + 1 ≡ 1 = omega arith in
-        sym (last ∙ rw (eq-eqb (i + 1) 1 e) (ap (stop 14) e))
+        sym (last ∙ rw (eq-eqb (i + 1) 1 e, ne-eqb t 0 v) (ap (stop 14) e))
 
-    module _ (z : i ≡ 0 → ⊥) (b : Bool) (be : b ≡ listable t) where
-      not-first : eqb (i + 1) 1 ≡ false
-      not-first = ne-eqb (i + 1) 1 (λ e. z (omega (arith, e)))
+    module _ (void : i ≡ 0 → t ≡ 0) (b : Bool) (be : b ≡ listable t) where
+      may-close : (eqb (i + 1) 1 && not (eqb t 0)) ≡ false
+      may-close = may-be-first (i + 1) t (λ e. void (omega (arith, e)))
 
       pub checking-total : not b ≡ true → stop 15 (i + 1) ≡ printCheck 1 ws t
-      checking-total n = sym (last ∙ rw (not-first, ← be, not-true b n) refl)
+      checking-total n = sym (last ∙ rw (may-close, ← be, not-true b n) refl)
 
       pub checking-end : not b ≡ false → done tt ≡ printCheck 1 ws t
-      checking-end n = sym (last ∙ rw (not-first, ← be, not-false b n) refl)
+      checking-end n = sym (last ∙ rw (may-close, ← be, not-false b n) refl)
 
 -- ---- the loop that stores their lines
 

@@ -18,13 +18,13 @@ use Rattle.text.specs.Scan.{same, lengthBefore, parted}
 use Rattle.text.specs.Lines.{lineOf}
 use Rattle.text.specs.declared.line.Name.the-variants.{Number}
 use Rattle.text.proofs.ScanLaws.{before-le}
-use Rattle.text.proofs.PartLaws.{behind, tail-is, same-is, Some, parted-some, parted-none, parted-at}
+use Rattle.text.proofs.PartLaws.{behind, tail-is, same-is, parted-some, parted-none, parted-at}
 use Rattle.shapes.specs.Shapes.{shapeOf}
 use Rattle.shapes.specs.declared.shape.Said.{Said}
 use Rattle.shapes.specs.declared.shape.Shape.{Shape}
 use Rattle.shapes.specs.declared.shape.Shape.the-variants.{Line, Other}
 use Rattle.loading.specs.Listable.{listable}
-use Rattle.loading.specs.Lines.{Entry, breath, total, entryOf}
+use Rattle.loading.specs.Lines.{breath, total, entryOf}
 use Rattle.loading.specs.Loads.{Listing, atEnd, behindAll, endedFrom, withWord, loadFrom, load}
 use Rattle.loading.specs.Fills.{countOf}
 use Rattle.loading.specs.Steps.{judgedOutcome, begins, lineThere, Breath, AtOnce, TurnIs, EndIs}
@@ -141,10 +141,10 @@ module _ (text : List ℕ) (k : ℕ) (ke : k ≡ lengthBefore 10 text) where
       pub turn-stopped : (number : ℕ) → j ≡ Judged.Stopped number → loadFrom n (parted 10 text) ≡ stop number n
       turn-stopped number e = turn-is ∙ ap (λ (i : Judged). follow n (judgedOutcome n i) (parted 10 (behind k text))) e
 
-      pub turn-breath : 1 ≤ n → (w : ℕ) → j ≡ Judged.Breath w → Breath n text (k + 1)
-      turn-breath p w e =
+      pub turn-breath : (w : ℕ) → j ≡ Judged.Breath w → Breath n text (k + 1)
+      turn-breath w e =
           let entry : entryOf n (shapeOf (take k text)) (take k text) ≡ done (breath w) = sym h ∙ ap (judgedOutcome n) e in
-          let t : Taken n (take k text) (breath w) = entry-only n (shapeOf (take k text)) (take k text) (breath w) p entry in
+          let t : Taken n (take k text) (breath w) = entry-only n (shapeOf (take k text)) (take k text) (breath w) entry in
           record {
             word = w;
             some = omega arith;

@@ -8,7 +8,7 @@ use Rattle.shapes.specs.Shapes.{shapeOf}
 use Rattle.shapes.specs.declared.shape.Shape.{Shape}
 use Rattle.shapes.specs.declared.shape.Shape.the-variants.{Line, Other}
 use Rattle.loading.specs.Prints.{printed, IsListing}
-use Rattle.loading.specs.Lines.{Entry, breath, total, entryOf}
+use Rattle.loading.specs.Lines.{breath, total, entryOf}
 
 pub record Listing : Type 0 where
   pub words : List ℕ
@@ -56,7 +56,7 @@ load text = loadFrom 1 (parted 10 text)
 
 -- ---- exactly these
 
--- A text is loaded just where it is the printed listing of one to 65,536 listable words and a listable total: as these.
+-- A text is loaded just where it is the printed listing of 0 to 65,536 listable words and a listable total, void where there are no words: as these.
 pub record Exactly (text : List ℕ) : Type 0 where
   pub recovered : (words : List ℕ) (total : ℕ) → IsListing words total → text ≡ printed words total → load text ≡ done (record { words = words; total = total })
   pub printed-again : (l : Listing) → load text ≡ done l → IsListing (l .words) (l .total) × (text ≡ printed (l .words) (l .total))

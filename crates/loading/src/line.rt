@@ -7,7 +7,7 @@ ghost use Rattle.text.specs.Numbers.{decimal};
 ghost use Rattle.text.specs.Scan.{same, lengthBefore};
 ghost use Rattle.text.specs.Lines.{isName};
 ghost use Rattle.shapes.specs.Shapes.{shapeOf};
-ghost use Rattle.loading.specs.Lines.{inSequence, entryOf};
+ghost use Rattle.loading.specs.Lines.{totalAt, inSequence, entryOf};
 ghost use Rattle.loading.specs.Steps.{judgedOutcome, lineThere, digitValue, wordFrom, AtOnce};
 use crate::listable::is_listable;
 use breaths::Ratio;
@@ -188,19 +188,31 @@ pub(crate) fn breath_line(text: &[u8], n: u32) -> usize
     line_in_window(text, Name::Number(n), w)
 }
 
+// What line n gives, which is named `all` and says word w: the total, or 15. As the first line: the void
+// total of a listing of no breaths, or 14.
+fn total_at(text: &[u8], k: usize, w: u64, n: u32) -> Judged
+    requires { ⌜ (k ≡ lengthBefore 10 (now text)) × (k < length (now text)) ⌝ }
+    ensures { λ r. ⌜ judgedOutcome n r ≡ totalAt n (take k (now (text .entry))) w ⌝ }
+{
+    if n == 1 {
+        if line_there(text, Name::All, 0) == 0 {
+            return Judged::Stopped(14);
+        }
+        return Judged::Total(0);
+    }
+    if line_there(text, Name::All, w) == 0 {
+        return Judged::Stopped(15);
+    }
+    Judged::Total(w)
+}
+
 // What line n gives, which has the shape: its name's length and its word.
 fn in_sequence(text: &[u8], k: usize, name: usize, w: u64, n: u32) -> Judged
     requires { ⌜ (k ≡ lengthBefore 10 (now text)) × (k < length (now text)) × (name ≤ k) × (1 ≤ n) ⌝ }
     ensures { λ r. ⌜ judgedOutcome n r ≡ inSequence n (take k (now (text .entry))) (take name (take k (now (text .entry)))) w ⌝ }
 {
     if is_same(&text[..name], b"all") {
-        if n == 1 {
-            return Judged::Stopped(14);
-        }
-        if line_there(text, Name::All, w) == 0 {
-            return Judged::Stopped(15);
-        }
-        return Judged::Total(w);
+        return total_at(text, k, w, n);
     }
     if text::MOST_BREATHS < n {
         return Judged::Stopped(14);

@@ -39,7 +39,9 @@ fn check(words: &[u64], total: u64) -> Completion
         i += 1;
     }
     if i == 0 {
-        return stop_at(14, 1);
+        if total != 0 {
+            return stop_at(14, 1);
+        }
     }
     if !is_listable(total) {
         return stop_at(15, i + 1);
@@ -69,8 +71,8 @@ fn put_words(words: &[u64], out: &mut [u8]) -> usize
 
 // Stores the listing of words and their total at the start of the lent array, which holds the
 // longest, and answers its length. It stops where no listing has such a line, and stores nothing
-// then: 14 for a total without words and for a word behind 65,536 of them, 15 for a word that isn't
-// listable, at the line that it would have.
+// then: 14 for a total that isn't void where there are no words, and for a word behind 65,536 of them;
+// 15 for a word that isn't listable, at the line that it would have.
 pub fn print_words(words: &[u64], total: u64, listing: &mut [u8; 2162719]) -> Answer
     ensures answered { λ r. ⌜ answerOutcome r ≡ lengthOf (printOutcome (now (words .entry)) total) ⌝ }
     ensures stored { λ _. ⌜ now (listing .exit) ≡ listAfter (printOutcome (now (words .entry)) total) (now (listing .entry)) ⌝ }

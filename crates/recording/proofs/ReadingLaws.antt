@@ -1,7 +1,7 @@
 -- A recording line by line. Assumes nothing.
 -- `next-follows`: what comes next is a breath's whole line, the end, or one of the recording's stops at that line. `next-ready`: what follows a
--- whole line doesn't change it. `breaths-steps`, `check-steps`: no line behind 65,537 is read. `breaths-some`,
--- `breaths-most`: a recording that doesn't stop has from 1 to 65,536 breaths.
+-- whole line doesn't change it. `breaths-steps`, `check-steps`: no line behind 65,537 is read. `breaths-most`: a recording has at most 65,536
+-- breaths. `check-stops`: a recording's stop is one of 8 to 11, at a line from 1 to 65,537; `never-12`: so that it is never 12.
 use mathlib.Core.Path.{_≡_, refl, sym, ap, _∙_, subst}
 use mathlib.Core.Logic.{_⊎_, inl, inr}
 use mathlib.Core.List.{List, [], _∷_, _++_}
@@ -13,11 +13,10 @@ use native.Mathlib.Decide.{decLt, ℕ-discrete}
 use lib.Dec.{ltb}
 use lib.ListN.{length, take, drop, length-append, length-take, length-drop, take-append-drop}
 use lib.Seq.{take-take, take-append-seam, drop-drop}
-use borrow.Author.Tests.{lt-ltb, le-ltb, eq-eqb, ne-eqb}
+use borrow.Author.Tests.{lt-ltb, le-ltb}
 use Rattle.convergents.specs.Choice.{if_then_else_}
 use Rattle.slash.specs.Answers.{Outcome, stop, done, _then_}
 use Rattle.slash.specs.declared.answer.Stop.{Stop}
-use Rattle.slash.proofs.AnswerLaws.{no-stop}
 use Rattle.breaths.specs.declared.breath.Breath.{Breath}
 use Rattle.text.specs.Scan.{lengthBefore}
 use Rattle.text.proofs.ScanLaws.{before-le, before-take}
@@ -26,7 +25,7 @@ use Rattle.recording.specs.Lines.{readLine}
 use Rattle.recording.specs.Steps.{LineLength, nextLength}
 use Rattle.recording.specs.declared.reading.Length.{Length}
 use Rattle.recording.specs.declared.reading.Length.the-variants as Length
-use Rattle.recording.specs.Reading.{Coming, aBreath, theEnd, nextOutcome, closing, fromLine, nextOf, breathsFrom, checkFrom, breathsOn, breathsIn, recordingCheck}
+use Rattle.recording.specs.Reading.{Coming, aBreath, theEnd, nextOutcome, fromLine, nextOf, breathsFrom, checkFrom, breathsOn, breathsIn, recordingCheck, StopNumber, RecordingStop}
 use Rattle.recording.specs.declared.line.Entry.{Entry}
 use Rattle.recording.specs.declared.line.Line.{Line}
 use Rattle.recording.specs.declared.line.Line.the-variants as Line
@@ -34,23 +33,21 @@ use Rattle.recording.specs.declared.reading.Next.{Next}
 use Rattle.recording.specs.declared.reading.Next.the-variants as Next
 use Rattle.recording.proofs.LineLaws.{Whole, Sound, line-sound, ended-line}
 
+-- ---- an example
+
+-- A recording without a byte isn't refused: a night with nothing in it.
+pub nothing-in-it : recordingCheck [] ≡ done tt
+unfolding recordingCheck checkFrom nextOf
+nothing-in-it = refl
+
 -- ---- what comes next
 
-module _ (line : ℕ) where
-  pub closing-empty : line ≡ 1 → stop 12 line ≡ closing line
-  unfolding closing
-  closing-empty h = rw (eq-eqb _ _ h) refl
-
-  pub closing-end : (line ≡ 1 → ⊥) → done theEnd ≡ closing line
-  unfolding closing
-  closing-end h = rw (ne-eqb _ _ h) refl
-
 module _ (line : ℕ) (bs : List ℕ) where
-  pub next-none : length bs ≡ 0 → closing line ≡ nextOf line bs
+  pub next-none : length bs ≡ 0 → done theEnd ≡ nextOf line bs
   unfolding nextOf
   next-none h = go bs h
     where
-      go : (l : List ℕ) → length l ≡ 0 → closing line ≡ nextOf line l
+      go : (l : List ℕ) → length l ≡ 0 → done theEnd ≡ nextOf line l
       go [] h = refl
       go (x ∷ l) h = absurd (omega arith)
 
@@ -88,7 +85,7 @@ next-quick line few bs entry e =
 
 -- A stop of a recording: its number, and the line that it comes at.
 abbrev pub StopAt : (line number place : ℕ) → Type 0
-StopAt line number place = (8 ≤ number) × (number ≤ 12) × (place ≡ line)
+StopAt line number place = StopNumber number × (place ≡ line)
 
 abbrev pub Follows : (line : ℕ) → List ℕ → Outcome Coming → Type 0
 Follows line bs (done (aBreath entry)) = (line ≤ 65536) × Whole bs entry
@@ -96,27 +93,20 @@ Follows line bs (done theEnd) = Unit {0}
 Follows line bs (stop number place) = StopAt line number place
 
 module _ (line : ℕ) (bs : List ℕ) where
-  stop-follows : (number : ℕ) → 8 ≤ number → number ≤ 12 → Follows line bs (stop number line)
-  stop-follows number i j = (i, j, refl)
+  stop-follows : (number : ℕ) → StopNumber number → Follows line bs (stop number line)
+  stop-follows number i = (i, refl)
 
   line-follows : line ≤ 65536 → (l : Line) → Sound bs l → Follows line bs (fromLine line l)
   unfolding fromLine
   line-follows few (Line.Read entry) w = (few, w)
-  line-follows few (Line.Refused number) w = stop-follows number (omega (arith, w .0)) (omega (arith, w .1))
-
-  closing-follows : Follows line bs (closing line)
-  closing-follows = go (ℕ-discrete line 1)
-    where
-      go : Dec (line ≡ 1) → Follows line bs (closing line)
-      go (yes h) = subst (Follows line bs) (closing-empty line h) (stop-follows 12 (omega arith) (omega arith))
-      go (no h) = subst (Follows line bs) (closing-end line h) tt
+  line-follows few (Line.Refused number) w = stop-follows number (omega (arith, w .0), w .1)
 
   pub next-follows : Follows line bs (nextOf line bs)
   next-follows = go (ℕ-discrete (length bs) 0) (decLt 65536 line)
     where
       go : Dec (length bs ≡ 0) → Dec (65536 < line) → Follows line bs (nextOf line bs)
-      go (yes h) d = subst (Follows line bs) (next-none line bs h) closing-follows
-      go (no h) (yes o) = subst (Follows line bs) (next-over line bs h o) (stop-follows 8 (omega arith) (omega arith))
+      go (yes h) d = subst (Follows line bs) (next-none line bs h) tt
+      go (no h) (yes o) = subst (Follows line bs) (next-over line bs h o) (stop-follows 8 (omega arith, omega arith))
       go (no h) (no o) =
           let few : line ≤ 65536 = omega arith in
           subst (Follows line bs) (next-line line bs h few) (line-follows few (readLine bs) (line-sound bs))
@@ -231,7 +221,7 @@ check-steps (suc steps) more line bs e few = ap (λ (k : ℕ). checkFrom k line 
     go (done theEnd) n ih = check-end (steps + more) line bs n ∙ sym (check-end steps line bs n)
     go (stop number place) n ih = check-stop (steps + more) line bs n ∙ sym (check-stop steps line bs n)
 
--- A recording has at most 65,536 breaths,
+-- A recording has at most 65,536 breaths.
 pub breaths-few : (steps line : ℕ) (bs : List ℕ) → line + steps ≡ 65538 → line ≤ 65537 → line + length (breathsFrom steps line bs) ≤ 65537
 breaths-few zero line bs e few = absurd (omega arith)
 breaths-few (suc steps) line bs e few = go (nextOf line bs) refl (breaths-few steps (suc line))
@@ -245,28 +235,6 @@ breaths-few (suc steps) line bs e few = go (nextOf line bs) refl (breaths-few st
     go (done theEnd) n ih = omega (arith, ap length (breaths-end steps line bs n))
     go (stop number place) n ih = omega (arith, ap length (breaths-stop steps line bs n))
 
--- and one that doesn't stop at least 1.
-no-end : (bs : List ℕ) → nextOf 1 bs ≡ done theEnd → ⊥
-unfolding nextOf closing fromLine
-no-end [] e = no-stop e
-no-end (b ∷ bs) e = go (readLine (b ∷ bs)) e
-  where
-    breath-end : {entry : Entry} → done (aBreath entry) ≡ done theEnd → ⊥
-    breath-end q = let z : _≡_ {A = ℕ} 0 1 = cc in omega arith
-
-    go : (l : Line) → fromLine 1 l ≡ done theEnd → ⊥
-    go (Line.Read entry) q = breath-end q
-    go (Line.Refused number) q = no-stop q
-
-pub breaths-some : (bs : List ℕ) → recordingCheck bs ≡ done tt → 1 ≤ length (breathsIn bs)
-unfolding recordingCheck breathsIn breathsOn
-breaths-some bs h = go (nextOf 1 bs) refl
-  where
-    go : (x : Outcome Coming) → nextOf 1 bs ≡ x → 1 ≤ length (breathsFrom 65537 1 bs)
-    go (done (aBreath entry)) n = omega (arith, ap length (breaths-more 65536 1 bs entry n))
-    go (done theEnd) n = absurd (no-end bs n)
-    go (stop number place) n = absurd (no-stop (sym (check-stop 65536 1 bs n) ∙ h))
-
 pub breaths-most : (bs : List ℕ) → length (breathsIn bs) ≤ 65536
 unfolding breathsIn breathsOn
 breaths-most bs = omega (arith, breaths-few 65537 1 bs (omega arith) (omega arith))
@@ -275,11 +243,37 @@ breaths-most bs = omega (arith, breaths-few 65537 1 bs (omega arith) (omega arit
 pub breaths-none : (steps line : ℕ) → breathsFrom steps line [] ≡ []
 unfolding breathsFrom
 breaths-none zero line = refl
-breaths-none (suc steps) line = go (ℕ-discrete line 1)
+breaths-none (suc steps) line = breaths-end steps line [] (sym (next-none line [] refl))
+
+-- ---- which stops there are
+
+-- a stop that a recording can cause
+abbrev Caused : Outcome (Unit {0}) → Type 0
+Caused (stop number place) = RecordingStop number place
+Caused (done x) = Unit {0}
+
+stops-from : (steps line : ℕ) (bs : List ℕ) → 1 ≤ line → line + steps ≤ 65538 → Caused (checkFrom steps line bs)
+unfolding checkFrom
+stops-from zero line bs p e = tt
+stops-from (suc steps) line bs p e = go (nextOf line bs) refl (stops-from steps (suc line))
   where
-    go : Dec (line ≡ 1) → breathsFrom (suc steps) line [] ≡ []
-    go (yes h) = breaths-stop steps line [] (sym (next-none line [] refl) ∙ sym (closing-empty line h))
-    go (no h) = breaths-end steps line [] (sym (next-none line [] refl) ∙ sym (closing-end line h))
+    go : (x : Outcome Coming) → nextOf line bs ≡ x → ((rest : List ℕ) → 1 ≤ suc line → suc line + steps ≤ 65538 → Caused (checkFrom steps (suc line) rest))
+        → Caused (checkFrom (suc steps) line bs)
+    go (done (aBreath entry)) n ih = subst Caused (sym (check-more steps line bs entry n)) (ih (drop (entry .used) bs) (omega arith) (omega arith))
+    go (done theEnd) n ih = subst Caused (sym (check-end steps line bs n)) tt
+    go (stop number place) n ih =
+        let s : StopAt line number place = follows-stop line bs n in
+        let h : RecordingStop number place = (s .0, omega (arith, s .1), omega (arith, s .1)) in
+        subst Caused (sym (check-stop steps line bs n)) h
+
+-- A recording's stop is one of 8 to 11, at a line from 1 to 65,537,
+pub check-stops : (bs : List ℕ) (number place : ℕ) → recordingCheck bs ≡ stop number place → RecordingStop number place
+unfolding recordingCheck
+check-stops bs number place e = subst Caused e (stops-from 65537 1 bs (omega arith) (omega arith))
+
+-- so that 12 is never one.
+pub never-12 : (bs : List ℕ) (place : ℕ) → recordingCheck bs ≡ stop 12 place → ⊥
+never-12 bs place e = omega (arith, check-stops bs 12 place e .0 .1)
 
 -- ---- the loop: what is read so far, and what the rest comes to
 

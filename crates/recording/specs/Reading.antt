@@ -1,7 +1,7 @@
 -- A recording line by line: what comes next, its breaths, and whether a line stops it.
-use Prim.Native.Nat.{ℕ, zero, suc, _-_}
+use Prim.Native.Nat.{ℕ, zero, suc, _-_, _≤_}
 use mathlib.Core.List.{List, [], _∷_}
-use lib.Dec.{eqb, ltb}
+use lib.Dec.{ltb}
 use lib.ListN.{drop}
 use Rattle.convergents.specs.Choice.{if_then_else_}
 use Rattle.slash.specs.Answers.{Outcome, stop, done, _then_}
@@ -27,10 +27,6 @@ nextOutcome (Next.Breath entry) = done (aBreath entry)
 nextOutcome Next.End = done theEnd
 nextOutcome (Next.Stopped s) = stop (s .number) (s .place)
 
--- Where no bytes are left, the recording ends. Stop 12: no line at all.
-unfoldable pub closing : (line : ℕ) → Outcome Coming
-closing line = if eqb line 1 then stop 12 line else done theEnd
-
 -- What a line comes to: a breath, or a stop at that line.
 unfoldable pub fromLine : (line : ℕ) → Line → Outcome Coming
 fromLine line (Line.Read entry) = done (aBreath entry)
@@ -40,9 +36,10 @@ fromLine line (Line.Refused number) = stop number line
 abbrev pub mostLines : ℕ
 mostLines = mostBreaths
 
--- What comes next, at a line, from the bytes not yet read. Stop 8: line 65,537 begins.
+-- What comes next, at a line, from the bytes not yet read. Where there are none, the recording ends, at line 1 too: a night with nothing in
+-- it. Stop 8: line 65,537 begins.
 unfoldable pub nextOf : (line : ℕ) → List ℕ → Outcome Coming
-nextOf line [] = closing line
+nextOf line [] = done theEnd
 nextOf line (b ∷ bs) = if ltb mostLines line then stop 8 line else fromLine line (readLine (b ∷ bs))
 
 -- ---- all that comes
@@ -79,3 +76,13 @@ breathsIn bs = breathsOn 1 bs
 -- What reading a recording through comes to.
 unfoldable pub recordingCheck : List ℕ → Outcome (Unit {0})
 recordingCheck bs = checkFrom (linesFrom 1) 1 bs
+
+-- ---- which stops there are
+
+-- The numbers of the stops that a recording can cause. (12, that there is no line, is reserved and never occurs: proved, `never-12`.)
+abbrev pub StopNumber : ℕ → Type 0
+StopNumber number = (8 ≤ number) × (number ≤ 11)
+
+-- And their lines (proved: `check-stops`).
+abbrev pub RecordingStop : (number place : ℕ) → Type 0
+RecordingStop number place = StopNumber number × (1 ≤ place) × (place ≤ suc mostLines)

@@ -1,7 +1,7 @@
 // A recording line by line: what comes next, and reading it through.
 ghost use mathlib.Core.Path.{_≡_};
 ghost use Rattle.slash.specs.Answers.{stop, completionOutcome};
-ghost use Rattle.recording.specs.Reading.{nextOutcome, closing, nextOf, recordingCheck};
+ghost use Rattle.recording.specs.Reading.{nextOutcome, nextOf, recordingCheck};
 ghost use Rattle.recording.specs.Steps.{nextLength};
 use crate::line::Entry;
 use crate::line::Line;
@@ -40,23 +40,12 @@ fn stop_at(line: u32, number: u32) -> Next
     })
 }
 
-// Where no bytes are left.
-fn closing(line: u32) -> Next
-    ensures { λ r. ⌜ nextOutcome r ≡ closing line ⌝ }
-{
-    if line == 1 {
-        stop_at(line, stop::EMPTY)
-    } else {
-        Next::End
-    }
-}
-
 // What comes next, whatever it is.
 fn any_line(line: u32, bytes: &[u8]) -> Next
     ensures { λ r. ⌜ nextOutcome r ≡ nextOf line (now (bytes .entry)) ⌝ }
 {
     if bytes.len() == 0 {
-        return closing(line);
+        return Next::End;
     }
     if MOST_LINES < line {
         return stop_at(line, stop::LINES);

@@ -11,6 +11,3 @@ pub(crate) const FIELDS: u32 = 10;
 
 // A field is not a tick mark.
 pub(crate) const TICK: u32 = 11;
-
-// No line at all.
-pub(crate) const EMPTY: u32 = 12;

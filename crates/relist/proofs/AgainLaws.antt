@@ -18,6 +18,7 @@ use Rattle.loading.specs.declared.load.Counted.{Counted}
 use Rattle.loading.specs.declared.load.Loaded.{Loaded}
 use Rattle.loading.specs.declared.load.Loaded.the-variants as Loaded
 use Rattle.loading.proofs.LoadLaws.{load-only}
+use Rattle.loading.proofs.FillLaws.{count-stop}
 use Rattle.loading.proofs.PrintLaws.{print-listing}
 use Rattle.relist.specs.Again.{printedAgain, SameAgain}
 
@@ -47,21 +48,13 @@ module _ (text o : List ℕ) (p q : ℕ) (pe : p ≡ 65536) (qe : q ≡ 65536) (
 
   pub again-stopped : (s : Stop) → r ≡ Loaded.Stopped s
       → (stop (s .number) (s .place) ≡ lengthOf (printedAgain text)) × ((o ≡ listAfter (printedAgain text) o) × SameAgain text)
-  unfolding printedAgain lengthOf listAfter countOf
-  again-stopped s e = go (load text) refl (sym (ap loadedOutcome e) ∙ loaded)
-    where
-      go : (x : Outcome Listing) → load text ≡ x → stop (s .number) (s .place) ≡ countOf x
-          → (stop (s .number) (s .place) ≡ lengthOf (printedAgain text)) × ((o ≡ listAfter (printedAgain text) o) × SameAgain text)
-      go (stop number place) i g =
-          let same : _≡_ {A = Outcome (List ℕ)} (stop (s .number) (s .place)) (stop number place) = stop-as g in
-          let m : printedAgain text ≡ stop (s .number) (s .place) =
-          ap (λ (y : Outcome Listing). y then λ l. done (printed (l .words) (l .total))) i ∙ sym same
-          in
-          (ap lengthOf (sym m), (ap (λ (y : Outcome (List ℕ)). listAfter y o) (sym m), again-same text))
-        where
-          stop-as : {a b c d : ℕ} → _≡_ {A = Outcome Counted} (stop a b) (stop c d) → _≡_ {A = Outcome (List ℕ)} (stop a b) (stop c d)
-          stop-as {a} {b} {c} {d} k = let x : a ≡ c = cc in let y : b ≡ d = cc in cc
-      go (done l) i g = absurd (no-stop g)
+  unfolding printedAgain lengthOf listAfter
+  again-stopped s e =
+      let stopped : load text ≡ stop (s .number) (s .place) = count-stop (load text) _ _ (sym (ap loadedOutcome e) ∙ loaded) in
+      let m : printedAgain text ≡ stop (s .number) (s .place) =
+      ap (λ (y : Outcome Listing). y then λ l. done (printed (l .words) (l .total))) stopped
+      in
+      (ap lengthOf (sym m), (ap (λ (y : Outcome (List ℕ)). listAfter y o) (sym m), again-same text))
 
   module _ (c : Counted) (e : r ≡ Loaded.Done c) (old new : List ℕ) (we : new ≡ wordsAfter (loadInto text p q) old) where
     record Words : Type 0 where

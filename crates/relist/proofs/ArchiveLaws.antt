@@ -1,6 +1,6 @@
 -- What a night printed is loaded as its words. Assumes nothing.
 -- `night-loaded`: loading what an unstopped run printed recovers the words of the recording's own breaths, and its total's; `night-printed`: the
--- listing is what is printed of them.
+-- listing is what is printed of them; `nothing-loaded`: of a recording without a byte, no words and a void total.
 use mathlib.Core.Path.{_≡_, refl, sym, ap, _∙_}
 use mathlib.Core.Bool.{Bool, true, false}
 use mathlib.Core.List.{List, [], _∷_, _++_}
@@ -9,11 +9,18 @@ use native.Mathlib.Omega.{arith}
 use lib.ListN.{length}
 use borrow.Author.Tests.{eqb-false}
 use Rattle.convergents.specs.Choice.{if_then_else_}
+use Rattle.convergents.specs.Pairs.{differs}
+use Rattle.convergents.specs.Convergents.{euclid, quotients, recurrence, convergents}
+use Rattle.convergents.specs.Rounding.{held, lastHeld, round}
 use Rattle.slash.specs.Answers.{done}
+use Rattle.slash.specs.Bits.{bitOf, wordOfFields}
+use Rattle.slash.specs.Formats.{holds}
+use Rattle.slash.specs.Writing.{fixedWord, pairWord, wordFor}
+use Rattle.slash.specs.Numbers.{pairOf}
 use Rattle.slash.proofs.AnswerLaws.{if-case}
 use Rattle.breaths.specs.Ratios.{wordOf, ratioOf, ratioWord}
-use Rattle.breaths.specs.Breaths.{isVoid, breathRatio, breathWord}
-use Rattle.breaths.specs.Sums.{noneLeft, nightRatio, nightWord, sumsOf}
+use Rattle.breaths.specs.Breaths.{span, breathOf, isVoid, breathRatio, breathWord}
+use Rattle.breaths.specs.Sums.{notVoid, total, sumsOf, noneLeft, nightRatio, nightWord}
 use Rattle.breaths.specs.Steps.{Proper}
 use Rattle.breaths.specs.declared.breath.Breath.{Breath}
 use Rattle.breaths.specs.declared.sums.Sums.{Sums}
@@ -21,18 +28,28 @@ use Rattle.breaths.specs.declared.ratio.Ratio.{Ratio}
 use Rattle.breaths.specs.declared.ratio.Ratio.the-variants.{Void, Word}
 use Rattle.breaths.proofs.RatioLaws.{ratio-of-word, good-breath, breath-proportion, night-proportion}
 use Rattle.breaths.proofs.SumLaws.{sums-proper}
+use Rattle.text.specs.Scan.{lengthBefore, isDigit, parted}
 use Rattle.text.specs.Lines.{lineOf, numbered}
 use Rattle.text.specs.declared.line.Name.the-variants.{All}
-use Rattle.recording.specs.Reading.{breathsIn, recordingCheck}
-use Rattle.recording.proofs.ReadingLaws.{breaths-some, breaths-most}
+use Rattle.recording.specs.Lines.{digitsFrom, readTick, fromTicks, fromFields, readLine}
+use Rattle.recording.specs.Reading.{fromLine, nextOf, breathsFrom, breathsOn, breathsIn, recordingCheck}
+use Rattle.recording.proofs.ReadingLaws.{nothing-in-it, breaths-most, breaths-none}
 use Rattle.listing.specs.Listing as listing
+use Rattle.listing.specs.Example.{exampleRecording}
 use Rattle.listing.proofs.ListingLaws.{listing-breaths}
 use Rattle.loading.specs.Listable.{listable, AllListable}
 use Rattle.loading.specs.Prints.{ratiosOf, printed, IsListing}
-use Rattle.loading.specs.Loads.{Listing, load}
+use Rattle.loading.specs.Loads.{load}
 use Rattle.loading.proofs.ListableLaws.{listable-zero, ratio-listable}
 use Rattle.loading.proofs.LoadLaws.{load-printed}
 use Rattle.relist.specs.Archive.{breathWords, wordsOf, Recovered}
+
+-- ---- an example
+
+-- The words of the paper's recording, and their total's: 01150282, 00020005, 00000000 and 012502aa.
+pub example-words : wordsOf exampleRecording ≡ record { words = 18154114 ∷ 131077 ∷ 0 ∷ []; total = 19202730 }
+unfolding exampleRecording wordsOf breathWords breathsIn breathsOn breathsFrom nextOf fromLine readLine parted fromFields fromTicks lengthBefore readTick digitsFrom isDigit breathOf span isVoid breathWord sumsOf notVoid total noneLeft nightWord ratioWord wordFor pairWord fixedWord wordOfFields bitOf pairOf round lastHeld held convergents recurrence quotients euclid differs holds
+example-words = refl
 
 -- ---- a breath's word, and a night's
 
@@ -89,6 +106,24 @@ words-ratios [] = refl
 words-ratios (b ∷ bs) =
     ap (λ (r : Ratio). r ∷ ratiosOf (breathWords bs)) (breath-ratio-is b) ∙ ap (λ (rs : List Ratio). breathRatio b ∷ rs) (words-ratios bs)
 
+-- of no breaths the word is void
+no-words : (bs : List Breath) → length (breathWords bs) ≡ 0 → nightWord (sumsOf bs) ≡ 0
+unfolding breathWords sumsOf nightWord noneLeft total notVoid
+no-words [] e = refl
+no-words (b ∷ bs) e = absurd (omega arith)
+
+-- The words of a recording's breaths, and their total's, are those of a listing.
+pub words-listing : (bs : List ℕ) → IsListing (wordsOf bs .words) (wordsOf bs .total)
+unfolding wordsOf
+words-listing bs =
+    let breaths : List Breath = breathsIn bs in
+    record {
+      few = omega (arith, breaths-most bs, words-length breaths);
+      words-are = words-listable breaths;
+      total-is = night-listable (sumsOf breaths) (sums-proper breaths);
+      void-of-none = no-words breaths;
+    }
+
 -- ---- a night that isn't refused
 
 module _ (bs : List ℕ) (h : recordingCheck bs ≡ done tt) where
@@ -107,16 +142,15 @@ module _ (bs : List ℕ) (h : recordingCheck bs ≡ done tt) where
       ∙ ap (λ (rs : List Ratio). numbered 1 rs ++ lineOf All (nightRatio (sumsOf breaths))) (sym (words-ratios breaths))
       ∙ ap (λ (r : Ratio). numbered 1 (ratiosOf (breathWords breaths)) ++ lineOf All r) (sym (night-ratio-is (sumsOf breaths) (sums-proper breaths)))
 
-  pub words-listing : IsListing (wordsOf bs .words) (wordsOf bs .total)
-  unfolding wordsOf
-  words-listing =
-      record {
-        some = omega (arith, breaths-some bs h, words-length breaths);
-        few = omega (arith, breaths-most bs, words-length breaths);
-        words-are = words-listable breaths;
-        total-is = night-listable (sumsOf breaths) (sums-proper breaths);
-      }
-
 -- and loading it recovers them.
 pub night-loaded : (bs : List ℕ) → Recovered bs
-night-loaded bs h = ap load (night-printed bs h) ∙ load-printed (wordsOf bs .words) (wordsOf bs .total) (words-listing bs h)
+night-loaded bs h = ap load (night-printed bs h) ∙ load-printed (wordsOf bs .words) (wordsOf bs .total) (words-listing bs)
+
+-- A night with nothing in it is loaded as no words, and a void total.
+pub nothing-loaded : load (listing.listingOf []) ≡ done (record { words = []; total = 0 })
+unfolding wordsOf breathWords breathsIn breathsOn
+nothing-loaded =
+    let none : breathsIn [] ≡ [] = breaths-none 65537 1 in
+    night-loaded [] nothing-in-it
+    ∙ ap (λ (bs : List Breath). done (record { words = breathWords bs; total = nightWord (sumsOf bs) })) none
+    ∙ ap (λ (t : ℕ). done (record { words = []; total = t })) (no-words [] refl)

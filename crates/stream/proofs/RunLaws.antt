@@ -17,7 +17,7 @@ use Rattle.stream.specs.declared.run.Run.the-variants.{Refused, Unwritte
 
 -- a stop of a piece is the recording's
 end-tells : (night : Night) → Real night → (o : Outcome Bool) → StopIn night o → Tells o
-end-tells night r (stop number place) i = (i .0, i .1, omega (arith, i .2, r .some), omega (arith, i .2, r .few))
+end-tells night r (stop number place) i = (i .0, omega (arith, i .1, r .some), omega (arith, i .1, r .few))
 end-tells night r (done whole) i = tt
 
 pub refused-tells : (night : Night) → Real night → (end : End) → StopIn night (endOutcome end) → (s : Stop) → end ≡ End.Refused s

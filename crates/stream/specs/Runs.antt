@@ -1,8 +1,7 @@
 -- How a run over file descriptors ends. What it reads and writes no contract can say.
-use Prim.Native.Nat.{suc, _≤_}
 use mathlib.Core.Bool.{Bool, true, false}
 use Rattle.slash.specs.Answers.{Outcome, stop, done}
-use Rattle.recording.specs.Reading.{mostLines}
+use Rattle.recording.specs.Reading.{RecordingStop}
 use Rattle.stream.specs.declared.run.Run.{Run}
 use Rattle.stream.specs.declared.run.Run.the-variants.{Listed, Refused, Unread, Unwritten}
 
@@ -14,7 +13,7 @@ runOutcome (Refused s) = stop (s .number) (s .place)
 runOutcome Unread = done false
 runOutcome Unwritten = done false
 
--- What a run tells: a stop is one that a recording can cause, 8 to 12, at a line from 1 to 65,537.
+-- What a run tells: a stop is one that a recording can cause.
 abbrev pub Tells : Outcome Bool → Type 0
-Tells (stop number place) = (8 ≤ number) × (number ≤ 12) × (1 ≤ place) × (place ≤ suc mostLines)
+Tells (stop number place) = RecordingStop number place
 Tells (done whole) = Unit {0}

@@ -1,4 +1,4 @@
-//! A printed listing read back, from documents 00 and 01 and CR 1 and 2 of 02 alone.
+//! A printed listing read back, from documents 00 and 01 and CRs 1 to 3 of 02 alone.
 
 use crate::night::{self, shares, stored, VOID};
 use crate::paper::{self, Answer, Number, Pair, Size, Stop};
@@ -46,7 +46,7 @@ pub fn read(text: &[u8]) -> Answer<Loaded> {
     let (mut words, mut total, mut line) = (Vec::new(), None, 1);
     for bytes in text.split_inclusive(|&byte| byte == b'\n') {
         let columns = columns(bytes).ok_or(stop_at(line)(13))?;
-        if total.is_some() || !is_in_sequence(columns[0], line) {
+        if total.is_some() || !is_in_sequence(columns, line) {
             return Err(stop_at(line)(14));
         }
         let word = word(columns).ok_or(stop_at(line)(15))?;
@@ -97,10 +97,13 @@ fn is_decimal(text: &str) -> bool {
     parts.is_some_and(|(whole, place)| is_whole(whole) && place.len() == 1 && is_digits(place))
 }
 
-/// Whether a line with this name comes here, no `all` before it.
-fn is_in_sequence(name: &str, line: usize) -> bool {
-    match name {
-        "all" => line > 1,
+/// The line that a night with nothing in it has.
+const NOTHING: [&str; 4] = ["all", "00000000", "-", "-"];
+
+/// Whether a line with these columns comes here, no `all` before it.
+fn is_in_sequence(columns: [&str; 4], line: usize) -> bool {
+    match columns[0] {
+        "all" => line > 1 || columns == NOTHING,
         number => line <= MOST_BREATHS && number == line.to_string(),
     }
 }
@@ -145,7 +148,7 @@ pub fn print_stop(words: &[u64], total: u64) -> Option<Stop> {
         }
     }
     match words.len() + 1 {
-        1 => stop(14, 1),
+        1 if total != VOID => stop(14, 1),
         last if !is_listed(total) => stop(15, last),
         _ => None,
     }
@@ -164,6 +167,25 @@ mod tests {
         assert_eq!(loaded.words, [0x0115_0282, 0x0002_0005, 0]);
         assert_eq!(loaded.total, 0x0125_02aa);
         assert_eq!(printed(&loaded.words, loaded.total), LISTING.as_bytes());
+    }
+
+    #[test]
+    fn a_night_with_nothing_in_it_is_one_line() {
+        let nothing = "all\t00000000\t-\t-\n";
+        assert_eq!(night::printed(b""), nothing.as_bytes());
+        let loaded = Loaded {
+            words: Vec::new(),
+            total: VOID,
+        };
+        assert_eq!(read(nothing.as_bytes()), Ok(loaded));
+        assert_eq!(load(nothing.as_bytes(), &mut [], &mut []), Ok((0, VOID)));
+        assert_eq!(print_stop(&[], VOID), None);
+        for total in [1, 2, 1 << 32] {
+            assert_eq!(print_stop(&[], total).map(|stop| stop.number), Some(14));
+        }
+        assert_eq!(refused(&nothing.repeat(2)), (14, 2));
+        assert_eq!(refused(&format!("{nothing}1\t00000000\t-\t-\n")), (14, 2));
+        assert_eq!(refused(&format!("{nothing}\n")), (13, 2));
     }
 
     /// The stop of the paper's listing in which a text stands in the place of the only one like it.
@@ -199,6 +221,8 @@ mod tests {
         assert_eq!(changed("all\t012502aa\t293/682\t43.0\n", ""), (14, 4));
         assert_eq!(changed("43.0\n", "43.0\n5\t00000000\t-\t-\n"), (14, 5));
         assert_eq!(refused("all\t00000000\t0/1\t0.0\n"), (14, 1));
+        assert_eq!(refused("all\t00010002\t1/2\t50.0\n"), (14, 1));
+        assert_eq!(refused("all\t80000001\t-\t-\n"), (14, 1));
         let listing = |breaths: usize| printed(&vec![VOID; breaths], VOID);
         assert_eq!(
             read(&listing(65536)).map(|loaded| loaded.words.len()),

@@ -1,4 +1,4 @@
-//! The listing of a night's recording, from documents 00 and 01 and CR 1 of 02 alone.
+//! The listing of a night's recording, from documents 00 and 01 and CRs 1 and 3 of 02 alone.
 
 use crate::paper::{self, Answer, Format, Pair, Stop};
 use std::cmp::Ordering;
@@ -28,9 +28,6 @@ fn list(recording: &[u8], listed: &mut String) -> Answer<()> {
         let place = line as u64;
         move |number| Stop { number, place }
     };
-    if recording.is_empty() {
-        return Err(stop_at(1)(12));
-    }
     let mut sums = (0, 0);
     for (index, line) in recording.split_inclusive(|&byte| byte == b'\n').enumerate() {
         let number = index + 1;

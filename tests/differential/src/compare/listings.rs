@@ -58,13 +58,16 @@ const STRANGE_COLUMNS: [&str; 40] = [
     "0/1\t0.0",
 ];
 
+/// That of a night with nothing in it.
+const NOTHING: &str = "all\t00000000\t-\t-\n";
+
 /// As many places as the breaths of most of these listings, and more.
 const ROOM: usize = 6;
 
 // The exhaustive part.
 
 pub fn every_listing(harness: &mut Harness, source: &mut Source) {
-    for listing in [PAPERS, MARKED] {
+    for listing in [PAPERS, MARKED, NOTHING] {
         every_changed_byte(harness, listing.as_bytes());
     }
     every_small_word(harness);
@@ -75,22 +78,22 @@ pub fn every_listing(harness: &mut Harness, source: &mut Source) {
     long_listings(harness, source);
 }
 
-/// Each byte changed to each other one, taken out or doubled; the text cut at each place.
+/// Each byte changed to each other one or taken out; each put in before it; the text cut at each place.
 fn every_changed_byte(harness: &mut Harness, listing: &[u8]) {
     for place in 0..listing.len() {
         let (before, from) = listing.split_at(place);
         for byte in 0..=255 {
             harness.load(&[before, &[byte], &from[1..]].concat(), ROOM, ROOM);
+            harness.load(&[before, &[byte], from].concat(), ROOM, ROOM);
         }
         harness.load(&[before, &from[1..]].concat(), ROOM, ROOM);
-        harness.load(&[before, &from[..1], from].concat(), ROOM, ROOM);
         harness.load(before, ROOM, ROOM);
     }
     harness.load(listing, ROOM, ROOM);
 }
 
-/// All words with small parts, of either sign and mark, in a breath's line and in that of the total; with
-/// the columns that their parts have and with others.
+/// All words with small parts, of either sign and mark, in a breath's line, in that of the total and in a
+/// total alone; with the columns that their parts have and with others.
 fn every_small_word(harness: &mut Harness) {
     let parts = (0..=24).flat_map(|n| (0..=24).map(move |d| (n, d)));
     for ((n, d), top) in parts.flat_map(|pair| (0..4).map(move |top| (pair, top))) {
@@ -105,12 +108,13 @@ fn every_small_word(harness: &mut Harness) {
     }
 }
 
-/// Holds two listings of one breath: with these columns in its line, and in the total's.
+/// Holds two listings of one breath, with these columns in its line and in the total's, and the total alone.
 fn hold_columns(harness: &mut Harness, word: u64, columns: &str) {
     let line = format!("{word:08x}\t{columns}\n");
     for listing in [
-        format!("1\t{line}all\t00000000\t-\t-\n"),
+        format!("1\t{line}{NOTHING}"),
         format!("1\t00000000\t-\t-\nall\t{line}"),
+        format!("all\t{line}"),
     ] {
         harness.load(listing.as_bytes(), ROOM, ROOM);
     }
@@ -156,7 +160,7 @@ fn every_three_lines(harness: &mut Harness) {
 
 /// Listings of a few breaths, good and refused, with lists about as long.
 fn every_list_length(harness: &mut Harness) {
-    for breaths in 1..5 {
+    for breaths in 0..5 {
         let good = load::printed(&vec![0x0002_0005; breaths], VOID);
         let refused = &good[..good.len() - 1];
         for numbers in 0..=ROOM {
@@ -183,7 +187,9 @@ fn endless_columns(harness: &mut Harness) {
         "\n".repeat(1_000_000),
     ] {
         harness.load(line.as_bytes(), ROOM, ROOM);
-        harness.load(format!("{PAPERS}{line}").as_bytes(), ROOM, ROOM);
+        for before in [PAPERS, NOTHING] {
+            harness.load(format!("{before}{line}").as_bytes(), ROOM, ROOM);
+        }
     }
 }
 
@@ -215,9 +221,10 @@ pub fn random_listing(harness: &mut Harness, source: &mut Source) {
 }
 
 impl Source {
-    /// A good listing of so many breaths, one that was printed for a recording or any other; of none, `all`.
+    /// A good listing of so many breaths, one that was printed for a recording or any other; of none, `all`,
+    /// which is good where it is void.
     fn listing(&mut self, breaths: usize) -> Vec<u8> {
-        if breaths > 0 && self.below(2) == 0 {
+        if self.below(2) == 0 {
             let recording = self.recording(breaths);
             return night::listing(&recording).expect("a good recording");
         }

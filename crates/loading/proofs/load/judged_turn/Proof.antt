@@ -60,7 +60,7 @@ returns-3 : tie.Need-returns-3
 returns-3 c = turn-stop _ _ _ _ _ (c .stop-at3 .ensures) (turn-stopped _ _ (c .before .before .before .before .before .before .length-before .ensures .1) (c .before .before .before .before .before .if1 .left) _ _ (c .before .before .before .before .judge .ensures) _ (c .before .before .number .given .1))
 
 returns-4 : tie.Need-returns-4
-returns-4 c = turn-breath _ _ (c .before .before .before .before .length-before .ensures .1) (c .before .before .before .if1 .left) _ _ (c .before .before .judge .ensures) (c .before .before .before .before .before .before .pre .0) (c .enum-told .given .0 .0) (c .enum-told .given .1)
+returns-4 c = turn-breath _ _ (c .before .before .before .before .length-before .ensures .1) (c .before .before .before .if1 .left) _ _ (c .before .before .judge .ensures) (c .enum-told .given .0 .0) (c .enum-told .given .1)
 
 returns-5 : tie.Need-returns-5
 returns-5 c = turn-total _ _ (c .before .before .before .before .before .before .before .length-before .ensures .1) (c .before .before .before .before .before .before .if1 .left) _ _ (c .before .before .before .before .before .judge .ensures) _ (c .before .before .before .w .given .1) (c .behind-all .result) (c .behind-all .ensures)

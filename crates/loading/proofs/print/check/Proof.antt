@@ -4,6 +4,7 @@ use native.Mathlib.Omega.{arith}
 use Prim.Native.Nat.{_-_}
 use lib.ListN.{length}
 use mathlib.Core.Path.{ap, _∙_}
+use mathlib.Core.Logic.{⊎-elim}
 use Rattle.slash.specs.Answers.{completionOutcome}
 use borrow.Author.Needs.{needs}
 use Rattle.loading.proofs.print.check.Statement.{statement}
@@ -61,7 +62,7 @@ stop-at-requires-3 : tie.Need-stop-at-requires-3 Inv-loop μ-loop
 stop-at-requires-3 c κs = search needs
 
 returns-3 : tie.Need-returns-3 Inv-loop μ-loop
-returns-3 c = ap completionOutcome (c .stop-at3 .ensures) ∙ checking-none (c .before .before .before .loop .inv) (omega arith) (omega arith)
+returns-3 c = ap completionOutcome (c .stop-at3 .ensures) ∙ checking-none (c .before .before .before .before .loop .inv) (omega arith) (omega (arith, c .before .before .if3 .taken)) (λ z. omega (arith, z, c .before .if4 .taken))
 
 is-listable-requires-2 : tie.Need-is-listable-requires-2 Inv-loop μ-loop
 is-listable-requires-2 c κs = search needs
@@ -73,10 +74,10 @@ stop-at-requires-4 : tie.Need-stop-at-requires-4 Inv-loop μ-loop
 stop-at-requires-4 c κs = search needs
 
 returns-4 : tie.Need-returns-4 Inv-loop μ-loop
-returns-4 c = ap completionOutcome (c .stop-at4 .ensures) ∙ checking-total (c .before .before .before .before .before .loop .inv) (omega arith) (omega arith) _ (c .before .before .is-listable2 .ensures) (c .before .if4 .taken)
+returns-4 c = ap completionOutcome (c .stop-at4 .ensures) ∙ checking-total (c .before .before .before .before .before .loop .inv) (omega arith) (⊎-elim (λ w z. omega (arith, w .1 .left)) (λ w z. absurd (w .left z)) (c .before .before .before .if3 .came)) _ (c .before .before .is-listable2 .ensures) (c .before .if5 .taken)
 
 returns-5 : tie.Need-returns-5 Inv-loop μ-loop
-returns-5 c = checking-end (c .before .before .before .before .loop .inv) (omega arith) (omega arith) _ (c .before .is-listable2 .ensures) (c .if4 .left)
+returns-5 c = checking-end (c .before .before .before .before .loop .inv) (omega arith) (⊎-elim (λ w z. omega (arith, w .1 .left)) (λ w z. absurd (w .left z)) (c .before .before .if3 .came)) _ (c .before .is-listable2 .ensures) (c .if5 .left)
 
 pub check-spec : {M : Type 1} → statement M
 check-spec =

@@ -6,11 +6,8 @@ use borrow.Author.Needs.{needs}
 use Rattle.recording.proofs.reading.any_line.Statement.{statement}
 use Rattle.recording.proofs.reading.any_line.Tie as tie
 
-closing-requires : tie.Need-closing-requires
-closing-requires c κs = search needs
-
 returns : tie.Need-returns
-returns c = c .closing .ensures ∙ next-none _ _ (c .before .if1 .taken)
+returns c = next-none _ _ (c .if1 .taken)
 
 stop-at-requires : tie.Need-stop-at-requires
 stop-at-requires c κs = search needs
@@ -40,7 +37,6 @@ pub any-line-spec : {M : Type 1} → statement M
 any-line-spec =
     tie.close
     (tie.spec
-    closing-requires
     returns
     stop-at-requires
     returns-2
