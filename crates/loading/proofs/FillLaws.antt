@@ -17,7 +17,7 @@ use Rattle.convergents.specs.Pairs.{Pair}
 use Rattle.slash.specs.Answers.{Outcome, stop, done, _then_}
 use Rattle.slash.specs.declared.answer.Stop.{Stop}
 use Rattle.slash.proofs.AnswerLaws.{done-inj, no-stop}
-use Rattle.breaths.specs.Ratios.{wordOf, ratioOf, fractionOf}
+use Rattle.breaths.specs.Ratios.{ratioOf, fractionOf}
 use Rattle.breaths.specs.declared.ratio.Ratio.{Ratio}
 use Rattle.breaths.specs.declared.ratio.Ratio.the-variants.{Void, Word}
 use Rattle.breaths.proofs.RatioLaws.{of-zero, of-some, word-of-ratio}
@@ -30,7 +30,7 @@ use Rattle.text.specs.declared.line.Name.the-variants.{Number, All}
 use Rattle.text.proofs.NumberLaws.{decimal-small, decimal-more, hexadecimal-length, put-front}
 use Rattle.text.proofs.PartLaws.{tail-is, free-append, free-drop, before-at}
 use Rattle.text.proofs.ScanLaws.{before-take}
-use Rattle.text.proofs.ColumnLaws.{columns-length}
+use Rattle.text.proofs.ColumnLaws.{shares-length, columns-long}
 use Rattle.text.proofs.LineLaws.{is-printable, name-all, name-number, line-parts}
 use Rattle.shapes.specs.Fields.{every, isWhole, isPlace, inTwo, areWholes, isFraction, areWholeAndPlace, isDecimal}
 use Rattle.shapes.specs.Words.{isHexDigit, isWord, hexValue, hexFrom, wordIn}
@@ -129,7 +129,6 @@ columns-some w = go (ℕ-discrete w 0)
 
 -- `all`'s line, too
 all-long : (t : ℕ) → 15 ≤ length (lineOf All (ratioOf t))
-unfolding columns
 all-long t =
     let r : Ratio = ratioOf t in
     omega (
@@ -139,9 +138,7 @@ all-long t =
       length-append (nameText All ++ tab) (columns r),
       length-append (nameText All) tab,
       ap length (name-all All refl),
-      length-append (hexadecimal 8 (wordOf r) ++ tab) (fractionAndPercentage r),
-      length-append (hexadecimal 8 (wordOf r)) tab,
-      hexadecimal-length 8 (wordOf r),
+      columns-long r,
       columns-some t,
     )
 
@@ -211,7 +208,6 @@ module _ (n w : ℕ) (e : listable w ≡ true) (u more : List ℕ) (is : u ≡ l
 
   -- the line feed stands among the next 16
   pub line-near : lengthBefore 10 (drop (k + 1 + 8 + 4) u) < 16
-  unfolding columns
   line-near =
       let r : Ratio = ratioOf w in
       omega (
@@ -219,10 +215,7 @@ module _ (n w : ℕ) (e : listable w ≡ true) (u more : List ℕ) (is : u ≡ l
         left-before,
         length-drop 4 shown,
         length-append tab (fractionAndPercentage r),
-        length-append (hexadecimal 8 (wordOf r) ++ tab) (fractionAndPercentage r),
-        length-append (hexadecimal 8 (wordOf r)) tab,
-        hexadecimal-length 8 (wordOf r),
-        columns-length r (is-printable r (ratio-printable w e)),
+        shares-length r (is-printable r (ratio-printable w e)),
       )
 
   pub line-behind : (j : ℕ) → j ≡ lengthBefore 10 (drop (k + 1 + 8 + 4) u)

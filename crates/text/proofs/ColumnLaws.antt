@@ -260,17 +260,20 @@ word-length w s =
       percentage-length t (at-most-1000 (x .numerator) (x .denominator) (s .some) (s .proper)),
     )
 
-shares-length : (r : Ratio) → PrintableRatio r → length (fractionAndPercentage r) ≤ 17
+pub shares-length : (r : Ratio) → PrintableRatio r → length (fractionAndPercentage r) ≤ 17
 shares-length Void s = omega (arith, ap length (shares-void Void refl))
 shares-length (Word w) s = word-length w s
 
-pub columns-length : (r : Ratio) → PrintableRatio r → length (columns r) ≤ 26
+-- eight digits and a tab stand before them
+pub columns-long : (r : Ratio) → length (columns r) ≡ 9 + length (fractionAndPercentage r)
 unfolding columns
-columns-length r s =
+columns-long r =
     omega (
       arith,
       length-append (hexadecimal 8 (wordOf r) ++ tab) (fractionAndPercentage r),
       length-append (hexadecimal 8 (wordOf r)) tab,
       hexadecimal-length 8 (wordOf r),
-      shares-length r s,
     )
+
+pub columns-length : (r : Ratio) → PrintableRatio r → length (columns r) ≤ 26
+columns-length r s = omega (arith, columns-long r, shares-length r s)
