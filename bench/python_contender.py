@@ -184,6 +184,26 @@ def convert(_, form, target, word, __):
     return target.write(*form.read(word))
 
 
+def rearranged(form, word, order):
+    """A finite word with the text of its field put in another order; others as they are."""
+    k = form.k
+    e = word >> (k - 1) & (1 << form.slash_bits) - 1
+    if e > k - 2:
+        return word
+    field = word & (1 << k - 1) - 1
+    return word - field + int(order(format(field, f"0{k - 1}b"), e), 2)
+
+
+def twist(_, form, __, word, ___):
+    """The twisted word: the denominator's bits turned, at the left."""
+    return rearranged(form, word, lambda bits, e: bits[::-1][:e] + bits[: len(bits) - e])
+
+
+def untwist(_, form, __, word, ___):
+    """The word of a twisted one."""
+    return rearranged(form, word, lambda bits, e: bits[e:] + bits[:e][::-1])
+
+
 def common_divisor(_, form, __, word, ___):
     """The greatest common divisor of the stored parts."""
     r, s = form.parts(word)
@@ -218,6 +238,8 @@ OPERATIONS = {
     "unary": unary,
     "compare": compare,
     "convert": convert,
+    "twist": twist,
+    "untwist": untwist,
     "gcd": common_divisor,
     "quotients": quotients,
 }

@@ -10,6 +10,10 @@
  * The mark is 1 where the value is approximate. A word stands for a signed fraction, zero, infinity
  * or not-a-number. Results are canonical, but negation and absolute value change the sign's bit alone.
  *
+ * Twisted words, another arrangement of floating ones, are for storage alone: see slash_twist. Every
+ * function but the two that untwist takes plain words, and none can tell a twisted word from a plain one.
+ * Twisting and untwisting leave a word's parts as they are, canonical or not.
+ *
  * What a call returns
  *
  *   Each function returns 0 where nothing stopped. Otherwise it returns the place times 256 plus the
@@ -62,7 +66,7 @@ extern "C" {
 #define SLASH_UNORDERED 3
 
 /* Stops. (12 is reserved: no call returns it.) */
-#define SLASH_UNKNOWN_FORMAT 1           /* unknown kind or k */
+#define SLASH_UNKNOWN_FORMAT 1           /* unknown kind or k, or a fixed format given to twisting */
 #define SLASH_UNKNOWN_CODE 2             /* unknown operation code */
 #define SLASH_UNEQUAL_LENGTHS 3          /* vectors of unequal length */
 #define SLASH_BITS_ABOVE_WIDTH 4         /* word with bits above its width */
@@ -125,6 +129,23 @@ uint64_t slash_convert(uint64_t kind, uint64_t k, uint64_t to_kind, uint64_t to_
 uint64_t slash_quotients(uint64_t kind, uint64_t k, uint64_t operand, uint32_t *list,
                          size_t list_length, uint64_t *count);
 
+/* Stores the word twisted, so that its numerator stands at the right. The sign, the mark and the slash
+ * position e stay where they are. For e <= k - 2 the leftmost e bits of the field hold the denominator
+ * without its leading bit, lowest bit leftmost, and the rest, the lowest k - 1 - e bits of the twisted
+ * word, is the numerator:
+ *
+ *   e = twisted >> (k - 1) & ((1 << L) - 1)
+ *   numerator = twisted & ((UINT64_C(1) << (k - 1 - e)) - 1)     where e <= k - 2
+ *
+ * An infinity or a not-a-number, where e is the last position, all ones, stays as it is. What a zero has for its denominator is kept
+ * like any denominator, and no two words become one. Stops 1 (for a fixed format too), 4, 5. */
+uint64_t slash_twist(uint64_t kind, uint64_t k, uint64_t word, uint64_t *twisted);
+
+/* Stores the word of which this is the twisted one: each of the two functions undoes the other. A twisted
+ * word has its slash position where a plain one has it, and is checked in the same way. Stops 1 (for a
+ * fixed format too), 4, 5. */
+uint64_t slash_untwist(uint64_t kind, uint64_t k, uint64_t twisted, uint64_t *word);
+
 /* slash_binary at each place: out[i] from left[i] and right[i]. Stops 1, 2, 3 (unless all three
  * lengths are equal), then 4 and 5 with the index as place. */
 uint64_t slash_binary_each(uint64_t kind, uint64_t k, uint64_t code, const uint64_t *left,
@@ -141,6 +162,16 @@ uint64_t slash_unary_each(uint64_t kind, uint64_t k, uint64_t code, const uint64
 uint64_t slash_convert_each(uint64_t kind, uint64_t k, uint64_t to_kind, uint64_t to_k,
                             const uint64_t *operand, size_t operand_length, uint64_t *out,
                             size_t out_length);
+
+/* slash_twist at each place: out[i] from operand[i]. Stops 1 (for a fixed format too), 3 (unless both
+ * lengths are equal), then 4 and 5 with the index as place. */
+uint64_t slash_twist_each(uint64_t kind, uint64_t k, const uint64_t *operand,
+                          size_t operand_length, uint64_t *out, size_t out_length);
+
+/* slash_untwist at each place: out[i] from operand[i]. Stops 1 (for a fixed format too), 3 (unless both
+ * lengths are equal), then 4 and 5 with the index as place. */
+uint64_t slash_untwist_each(uint64_t kind, uint64_t k, const uint64_t *operand,
+                            size_t operand_length, uint64_t *out, size_t out_length);
 
 /* Stores the listing of a night's recording, what the program `night` prints for it, at the start of
  * the lent listing, leaves the rest as it was, and stores the listing's length. The recording has a

@@ -1,4 +1,4 @@
-//! Each contender runs a row's inputs and gives the checksum of its results.
+//! Each contender runs a row's inputs and stores its results.
 
 use std::hint::black_box;
 
@@ -12,12 +12,23 @@ pub enum Operation {
     Gcd,
     Quotients,
     Convert,
+    Twist,
+    Untwist,
     BinaryEach(u64),
     UnaryEach(u64),
     ConvertEach,
+    TwistEach,
+    UntwistEach,
 }
 
 use Operation::*;
+
+impl Operation {
+    /// Whether it rearranges a word's bits, which is nothing that GMP's rationals do.
+    pub fn is_twisting(self) -> bool {
+        matches!(self, Twist | Untwist | TwistEach | UntwistEach)
+    }
+}
 
 /// A row of the table: an operation in a format, and its inputs.
 pub struct Row {
@@ -35,8 +46,11 @@ pub fn folded(results: impl Iterator<Item = u64>) -> u64 {
     results.fold(0, |h, result| h.wrapping_mul(31).wrapping_add(result))
 }
 
-fn each(inputs: &[(u64, u64)], mut call: impl FnMut(u64, u64) -> u64) -> u64 {
-    folded(inputs.iter().map(|&(a, b)| call(a, b)))
+/// Stores the result of each pair of inputs.
+fn each(inputs: &[(u64, u64)], out: &mut [u64], mut call: impl FnMut(u64, u64) -> u64) {
+    for (&(a, b), out) in inputs.iter().zip(out) {
+        *out = call(a, b);
+    }
 }
 
 /// The checksum of the quotients at the start of a list, their count first.
@@ -51,9 +65,10 @@ fn folded_list(list: &[u32], count: u64) -> u64 {
 macro_rules! through_c {
     ($(#[$about:meta])* $name:ident, $calls:path) => {
         $(#[$about])*
-        pub fn $name(row: &Row, count: usize) -> u64 {
+        pub fn $name(row: &Row, out: &mut [u64]) {
             use $calls as calls;
             let ((kind, k), (to_kind, to_k)) = (black_box(row.form), black_box(row.target));
+            let count = out.len();
             let (inputs, left, right) = (
                 &row.inputs[..count],
                 &row.left[..count],
@@ -61,60 +76,72 @@ macro_rules! through_c {
             );
             let mut word = 0;
             let mut list = [0; 64];
-            let mut out = vec![0; count];
             let (l, r, o) = (left.as_ptr(), right.as_ptr(), out.as_mut_ptr());
             // SAFETY: the pointers are those of live numbers and vectors, with their lengths.
             let status = unsafe {
                 match row.operation {
                     Round => {
-                        return each(inputs, |n, d| {
+                        return each(inputs, out, |n, d| {
                             calls::slash_round(kind, k, n, d, &mut word);
                             word
                         })
                     }
                     Binary(code) => {
-                        return each(inputs, |a, b| {
+                        return each(inputs, out, |a, b| {
                             calls::slash_binary(kind, k, code, a, b, &mut word);
                             word
                         })
                     }
                     Compare => {
-                        return each(inputs, |a, b| {
+                        return each(inputs, out, |a, b| {
                             calls::slash_compare(kind, k, a, b, &mut word);
                             word
                         })
                     }
                     Unary(code) => {
-                        return each(inputs, |a, _| {
+                        return each(inputs, out, |a, _| {
                             calls::slash_unary(kind, k, code, a, &mut word);
                             word
                         })
                     }
                     Gcd => {
-                        return each(inputs, |a, _| {
+                        return each(inputs, out, |a, _| {
                             calls::slash_gcd(kind, k, a, &mut word);
                             word
                         })
                     }
                     Quotients => {
-                        return each(inputs, |a, _| {
+                        return each(inputs, out, |a, _| {
                             calls::slash_quotients(kind, k, a, list.as_mut_ptr(), list.len(), &mut word);
                             folded_list(&list, word)
                         })
                     }
                     Convert => {
-                        return each(inputs, |a, _| {
+                        return each(inputs, out, |a, _| {
                             calls::slash_convert(kind, k, to_kind, to_k, a, &mut word);
+                            word
+                        })
+                    }
+                    Twist => {
+                        return each(inputs, out, |a, _| {
+                            calls::slash_twist(kind, k, a, &mut word);
+                            word
+                        })
+                    }
+                    Untwist => {
+                        return each(inputs, out, |a, _| {
+                            calls::slash_untwist(kind, k, a, &mut word);
                             word
                         })
                     }
                     BinaryEach(code) => calls::slash_binary_each(kind, k, code, l, count, r, count, o, count),
                     UnaryEach(code) => calls::slash_unary_each(kind, k, code, l, count, o, count),
                     ConvertEach => calls::slash_convert_each(kind, k, to_kind, to_k, l, count, o, count),
+                    TwistEach => calls::slash_twist_each(kind, k, l, count, o, count),
+                    UntwistEach => calls::slash_untwist_each(kind, k, l, count, o, count),
                 }
             };
             assert_eq!(status, 0);
-            folded(out.into_iter())
         }
     };
 }
@@ -129,6 +156,12 @@ through_c!(
     /// The hand-written Rust.
     hand,
     hand_calls
+);
+
+through_c!(
+    /// The hand-written Rust, twisting with tables.
+    tables,
+    hand_calls::tables
 );
 
 extern "C" {
@@ -208,23 +241,28 @@ pub fn start_gmp() {
 }
 
 /// GMP's rationals, called from C; a vector is a loop over its places.
-pub fn gmp(row: &Row, count: usize) -> u64 {
+pub fn gmp(row: &Row, out: &mut [u64]) {
     let ((kind, k), (to_kind, to_k)) = (black_box(row.form), black_box(row.target));
-    let inputs = &row.inputs[..count];
+    let inputs = &row.inputs[..out.len()];
     let mut list = [0; 64];
     // SAFETY: one thread, after start_gmp; the list is as long as the most quotients.
     unsafe {
         match row.operation {
-            Round => each(inputs, |n, d| gmp_round(kind, k, n, d)),
-            Binary(code) | BinaryEach(code) => each(inputs, |a, b| gmp_binary(kind, k, code, a, b)),
-            Compare => each(inputs, |a, b| gmp_compare(kind, k, a, b)),
-            Unary(code) | UnaryEach(code) => each(inputs, |a, _| gmp_unary(kind, k, code, a)),
-            Gcd => each(inputs, |a, _| gmp_common_divisor(kind, k, a)),
-            Quotients => each(inputs, |a, _| {
+            Round => each(inputs, out, |n, d| gmp_round(kind, k, n, d)),
+            Binary(code) | BinaryEach(code) => {
+                each(inputs, out, |a, b| gmp_binary(kind, k, code, a, b))
+            }
+            Compare => each(inputs, out, |a, b| gmp_compare(kind, k, a, b)),
+            Unary(code) | UnaryEach(code) => each(inputs, out, |a, _| gmp_unary(kind, k, code, a)),
+            Gcd => each(inputs, out, |a, _| gmp_common_divisor(kind, k, a)),
+            Quotients => each(inputs, out, |a, _| {
                 let count = gmp_quotients(kind, k, a, list.as_mut_ptr());
                 folded_list(&list, count)
             }),
-            Convert | ConvertEach => each(inputs, |a, _| gmp_convert(kind, k, to_kind, to_k, a)),
+            Convert | ConvertEach => {
+                each(inputs, out, |a, _| gmp_convert(kind, k, to_kind, to_k, a))
+            }
+            Twist | Untwist | TwistEach | UntwistEach => unreachable!("GMP takes no part"),
         }
     }
 }
@@ -239,5 +277,7 @@ pub fn python_name(operation: Operation) -> (&'static str, u64) {
         Gcd => ("gcd", 0),
         Quotients => ("quotients", 0),
         Convert | ConvertEach => ("convert", 0),
+        Twist | TwistEach => ("twist", 0),
+        Untwist | UntwistEach => ("untwist", 0),
     }
 }

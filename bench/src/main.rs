@@ -7,6 +7,7 @@
 mod contenders;
 mod inputs;
 mod loading;
+mod tables;
 
 use contenders::{folded, listed, Operation, Row, NIGHTS};
 use inputs::Source;
@@ -40,12 +41,15 @@ fn main() {
     };
     contenders::start_gmp();
     let mut source = Source::new(1);
-    let rows = rows(&mut source);
+    let mut rows = rows(&mut source);
     let recording = source.recording(BREATHS);
+    rows.extend(twisting_rows(&mut source));
     let room = std::env::temp_dir().join(format!("bench-{}", std::process::id()));
     fs::create_dir_all(&room).expect("a temporary folder");
     print!("{}", head());
-    print!("{}", table_of_calls(&rows, &room, Path::new(folder)));
+    let (times, python_ratios) = timed_rows(&rows, &room, Path::new(folder));
+    print!("{}", table_of_calls(&rows, &times, &python_ratios));
+    print!("{}", tables::section(&rows, &times));
     print!(
         "{}",
         table_of_nights(&recording, &room, Path::new(folder), night)
@@ -97,6 +101,23 @@ fn rows(source: &mut Source) -> Vec<Row> {
     ask("add, a vector", BinaryEach(1), FIXED_15, FIXED_15);
     ask("floor, a vector", UnaryEach(4), FIXED_15, FIXED_15);
     ask("convert, a vector", ConvertEach, FIXED_31, FIXED_15);
+    rows
+}
+
+/// Their inputs are drawn last, so that every other row and the recording have those that they had.
+fn twisting_rows(source: &mut Source) -> Vec<Row> {
+    use Operation::*;
+    let mut rows = Vec::new();
+    for (name, operation) in [
+        ("twist", Twist),
+        ("untwist", Untwist),
+        ("twist, a vector", TwistEach),
+        ("untwist, a vector", UntwistEach),
+    ] {
+        for form in [FLOATING_32, FLOATING_26] {
+            rows.push(row(source, name, operation, form, form));
+        }
+    }
     rows
 }
 
@@ -163,20 +184,45 @@ fn timed<T>(call: impl FnOnce() -> T) -> (f64, T) {
     (start.elapsed().as_nanos() as f64, result)
 }
 
-const CONTENDERS: [fn(&Row, usize) -> u64; 3] =
-    [contenders::archive, contenders::hand, contenders::gmp];
+/// A contender: stores the results of a row's first inputs, as many as there are places.
+type Contender = fn(&Row, &mut [u64]);
 
-fn table_of_calls(rows: &[Row], room: &Path, folder: &Path) -> String {
+/// Those that take part in a row. They are three in each: whoever is first is slower, so that of two a ratio
+/// would be below the true one in every other round and above it in the rest, and their median anywhere
+/// between; with three the rounds in which neither was first are in the middle.
+fn contenders_of(row: &Row) -> [Contender; 3] {
+    let third = if row.operation.is_twisting() {
+        contenders::tables
+    } else {
+        contenders::gmp
+    };
+    [contenders::archive, contenders::hand, third]
+}
+
+/// The nanoseconds a call of a row's contenders, round by round.
+type Times = [Vec<f64>; 3];
+
+/// The nanoseconds that a contender takes for a row, and the checksum of its results.
+fn timed_row(contender: Contender, row: &Row, out: &mut [u64]) -> (f64, u64) {
+    out.fill(0);
+    let (spent, ()) = timed(|| contender(row, out));
+    (spent, folded(out.iter().copied()))
+}
+
+/// The times of each row, and how many times as long as the archive Python takes.
+fn timed_rows(rows: &[Row], room: &Path, folder: &Path) -> (Vec<Times>, Vec<Vec<f64>>) {
     let asked = room.join("rows");
     write_rows(rows, &asked);
+    let mut out = vec![0; CALLS];
     let mut times = vec![[(); 3].map(|()| Vec::new()); rows.len()];
     // Python's times, each with the archive's of the same round.
     let mut python_ratios = vec![Vec::new(); rows.len()];
     for round in 0..ROUNDS {
         for (row, times) in rows.iter().zip(&mut times) {
+            let contenders = contenders_of(row);
             let mut sums = Vec::new();
-            for at in in_turn(CONTENDERS.len(), round) {
-                let (spent, sum) = timed(|| CONTENDERS[at](row, CALLS));
+            for at in in_turn(contenders.len(), round) {
+                let (spent, sum) = timed_row(contenders[at], row, &mut out);
                 times[at].push(spent / CALLS as f64);
                 sums.push(sum);
             }
@@ -190,26 +236,35 @@ fn table_of_calls(rows: &[Row], room: &Path, folder: &Path) -> String {
             let python = python_times(&folder.join("python_contender.py"), &asked);
             assert_eq!(python.len(), rows.len());
             for (at, (spent, sum)) in python.into_iter().enumerate() {
-                let expected = contenders::archive(&rows[at], PYTHON_CALLS);
+                let (_, expected) =
+                    timed_row(contenders::archive, &rows[at], &mut out[..PYTHON_CALLS]);
                 assert_eq!(sum, expected, "{} in Python", rows[at].name);
                 python_ratios[at].push(spent / times[at][0][round]);
             }
         }
     }
+    (times, python_ratios)
+}
+
+fn table_of_calls(rows: &[Row], times: &[Times], python_ratios: &[Vec<f64>]) -> String {
     let mut table = String::from(
         "## Calls\n\n\
          Nanoseconds a call (a vector: a place), then how many times as long as the archive each of the \
-         others takes: below 1 it is faster, above 1 slower.\n\n\
+         others takes: below 1 it is faster, above 1 slower. A dash: it takes no part.\n\n\
          | | Archive, ns | Hand-written Rust | GMP | Python's Fraction |\n|---|--:|--:|--:|--:|\n",
     );
-    for ((row, [archive, hand, gmp]), python) in rows.iter().zip(&times).zip(&python_ratios) {
+    for ((row, [archive, hand, third]), python) in rows.iter().zip(times).zip(python_ratios) {
+        let gmp = if row.operation.is_twisting() {
+            "–".to_string()
+        } else {
+            format!("{:.1}", ratio(archive, third))
+        };
         writeln!(
             table,
-            "| {} | {:.1} | {:.2} | {:.1} | {:.0} |",
+            "| {} | {:.1} | {:.2} | {gmp} | {:.0} |",
             row.name,
             median(archive),
             ratio(archive, hand),
-            ratio(archive, gmp),
             median(python)
         )
         .expect("a row");
@@ -387,7 +442,7 @@ fn head() -> String {
          contenders take turns, each first in its turn; a ratio is the median of the rounds' ratios, not the ratio of two medians; inputs are random and the same for each, and the results' checksums \
          were equal. The archive is the proved library. The hand-written Rust is `bench/hand`: the same \
          algorithm, optimised, called through the same C interface. GMP's rationals with the continued fraction cut in C are `bench/gmp.c`; \
-         Python's Fraction is `bench/python_contender.py`.\n\n",
+         Python's Fraction is `bench/python_contender.py`, which twists words as text.\n\n",
         String::from_utf8_lossy(&date.stdout).trim()
     )
 }

@@ -2,6 +2,7 @@
 
 import operations
 import slash
+import twisting
 import vectors
 
 # Formats, words and rounding.
@@ -170,6 +171,25 @@ def answer_quotients(kind, k, length, word):
     return " ".join([first, *map(str, lent)])
 
 
+# Twisted storage. Way 1 twists, way 2 untwists.
+
+
+def answer_twist(kind, k, way, word):
+    """t: the word that a way of twisting gives."""
+    form = slash.make_format(kind, k)
+    return "%x" % twisting.WAYS[way](form, word)
+
+
+def answer_twist_each(kind, k, way):
+    """T: what t answers for every word."""
+    form = slash.make_format(kind, k)
+
+    def operation(word):
+        return twisting.WAYS[way](form, word)
+
+    return each_word(form, "%x", operation)
+
+
 # Vectors. The words come after all lengths: the operands', then the lent result's.
 # First the operands alone are checked.
 
@@ -195,6 +215,14 @@ def answer_convert_vector(kind, k, to_kind, to_k, length, out_length, *words):
     operand, out = parted(words, length, out_length)
     checked = told_text(vectors.check_operands, kind, k, operand)
     told = told_text(vectors.convert_each, kind, k, to_kind, to_k, operand, out)
+    return vector_text(checked, told, out)
+
+
+def answer_twist_vector(kind, k, way, length, out_length, *words):
+    """e: a way of twisting on a vector; a fixed format's words are checked as well."""
+    operand, out = parted(words, length, out_length)
+    checked = told_text(vectors.check_operands, kind, k, operand)
+    told = told_text(vectors.twist_each, kind, k, way, operand, out)
     return vector_text(checked, told, out)
 
 
@@ -250,6 +278,9 @@ ANSWERS = {
     "x": answer_binary_vector,
     "y": answer_unary_vector,
     "z": answer_convert_vector,
+    "t": answer_twist,
+    "T": answer_twist_each,
+    "e": answer_twist_vector,
 }
 
 

@@ -15,6 +15,7 @@ from cases_common import chosen, small_formats
 from cases_night import EXAMPLE, EXAMPLE_LISTING, next_to, ties
 from checks_listings import check_listings
 from checks_source import check_source
+from checks_twisting import check_twisting
 from slash import FIXED, FRACTION, ZERO
 
 # What the papers print: document 01's Edges, with 004's roundings and widths. What
@@ -160,6 +161,7 @@ def check_all():
     check_one_word()
     check_quotients()
     check_vectors()
+    check_twisting()
     check_night()
     check_ties()
     check_listings()

@@ -1,4 +1,4 @@
-"""The vector forms of slash arithmetic, from documents 00 and 01 alone.
+"""The vector forms of slash arithmetic, from documents 00 and 01 and CR 4 of 02 alone.
 
 A vector is a list of words. Each form is lent the result's list too, and
 stores in it only when nothing stops.
@@ -6,6 +6,7 @@ stores in it only when nothing stops.
 
 import operations
 import slash
+import twisting
 from slash import Stop
 
 # The number of the stop that the other modules don't cause.
@@ -37,6 +38,15 @@ def convert_each(kind, k, to_kind, to_k, operand, out):
     check_lengths(operand, out)
     check_words(source, operand)
     out[:] = [operations.converted(source, target, word) for word in operand]
+
+
+def twist_each(kind, k, way, operand, out):
+    """A way of twisting at each place; stop 1, for a fixed format too, 3, the words'."""
+    form = slash.make_format(kind, k)
+    twisting.check_floating(form)
+    check_lengths(operand, out)
+    check_words(form, operand)
+    out[:] = [twisting.WAYS[way](form, word) for word in operand]
 
 
 def check_operands(kind, k, *operands):

@@ -11,6 +11,7 @@ import cases_load
 import cases_night
 import cases_print
 import cases_source
+import cases_twisting
 import cases_unary
 import cases_vectors
 import cases_words
@@ -25,6 +26,7 @@ CASE_MODULES = [
     cases_binary,
     cases_unary,
     cases_vectors,
+    cases_twisting,
 ]
 
 

@@ -50,7 +50,7 @@ impl Stop {
 impl fmt::Display for Stop {
     fn fmt(&self, f: &mut fmt::Formatter) -> fmt::Result {
         let meaning = match self.number {
-            1 => "unknown kind or k",
+            1 => "unknown kind or k, or a fixed format given to twisting",
             2 => "unknown operation code",
             3 => "vectors of unequal length",
             4 => "word with bits above its width",
@@ -153,6 +153,22 @@ pub fn quotients(form: Format, operand: u64, list: &mut [u32]) -> Result<usize, 
     Ok(count as usize)
 }
 
+/// A floating word twisted, for storage: sign, mark and slash position e stay, and for e up to k - 2 the
+/// lowest k - 1 - e bits are the numerator. Stops 1, for a fixed format too, then 4 and 5.
+///
+/// Above the numerator the field holds the denominator without its leading bit, lowest bit leftmost. An
+/// infinity or a not-a-number stays as it is. Twisted words are for storage: but for the two functions
+/// that untwist them, all functions take plain ones.
+pub fn twist(form: Format, word: u64) -> Result<u64, Stop> {
+    stored(|twisted| unsafe { raw::slash_twist(form.kind, form.k, word, twisted) })
+}
+
+/// The word of which this is the twisted one: undoes [`twist`]. Stops 1, for a fixed format too, then 4
+/// and 5.
+pub fn untwist(form: Format, twisted: u64) -> Result<u64, Stop> {
+    stored(|word| unsafe { raw::slash_untwist(form.kind, form.k, twisted, word) })
+}
+
 /// [`binary`] at each place of equally long vectors; stops 1, 3, then 4 and 5 with their place.
 pub fn binary_each(
     form: Format,
@@ -209,6 +225,36 @@ pub fn convert_each(
             source.k,
             target.kind,
             target.k,
+            operand.as_ptr(),
+            operand.len(),
+            out.as_mut_ptr(),
+            out.len(),
+        )
+    })
+}
+
+/// [`twist`] at each place of equally long vectors; stops 1, for a fixed format too, 3, then 4 and 5 with
+/// their place.
+pub fn twist_each(form: Format, operand: &[u64], out: &mut [u64]) -> Result<(), Stop> {
+    Stop::check(unsafe {
+        raw::slash_twist_each(
+            form.kind,
+            form.k,
+            operand.as_ptr(),
+            operand.len(),
+            out.as_mut_ptr(),
+            out.len(),
+        )
+    })
+}
+
+/// [`untwist`] at each place of equally long vectors; stops 1, for a fixed format too, 3, then 4 and 5 with
+/// their place.
+pub fn untwist_each(form: Format, operand: &[u64], out: &mut [u64]) -> Result<(), Stop> {
+    Stop::check(unsafe {
+        raw::slash_untwist_each(
+            form.kind,
+            form.k,
             operand.as_ptr(),
             operand.len(),
             out.as_mut_ptr(),

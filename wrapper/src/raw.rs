@@ -37,6 +37,8 @@ extern "C" {
         list_length: usize,
         count: *mut u64,
     ) -> u64;
+    pub fn slash_twist(kind: u64, k: u64, word: u64, twisted: *mut u64) -> u64;
+    pub fn slash_untwist(kind: u64, k: u64, twisted: u64, word: *mut u64) -> u64;
     pub fn slash_binary_each(
         kind: u64,
         k: u64,
@@ -62,6 +64,22 @@ extern "C" {
         k: u64,
         to_kind: u64,
         to_k: u64,
+        operand: *const u64,
+        operand_length: usize,
+        out: *mut u64,
+        out_length: usize,
+    ) -> u64;
+    pub fn slash_twist_each(
+        kind: u64,
+        k: u64,
+        operand: *const u64,
+        operand_length: usize,
+        out: *mut u64,
+        out_length: usize,
+    ) -> u64;
+    pub fn slash_untwist_each(
+        kind: u64,
+        k: u64,
         operand: *const u64,
         operand_length: usize,
         out: *mut u64,

@@ -121,6 +121,98 @@ fn vectors_store_all_or_nothing() {
     assert_eq!(add(&[], &[], &mut []), Ok(()));
 }
 
+const FLOATING_26: Format = Format::floating(26);
+
+#[test]
+fn twisting_and_untwisting_give_the_papers_fields() {
+    // 355/113, approximate: sign, mark and slash position stay.
+    let top = 0x4c00_0000;
+    let (plain, twisted) = (top + 22_769, top + 18_350_435);
+    assert_eq!(slash::twist(FLOATING_26, plain), Ok(twisted));
+    assert_eq!(slash::untwist(FLOATING_26, twisted), Ok(plain));
+}
+
+#[test]
+fn twisting_leaves_infinity_and_not_a_number_as_they_are() {
+    for field in [0, 1, 22_769, 18_350_435, (1 << 25) - 1] {
+        for sign_and_mark in 0..4 {
+            let word = (sign_and_mark << 30) + (31 << 25) + field;
+            assert_eq!(slash::twist(FLOATING_26, word), Ok(word));
+            assert_eq!(slash::untwist(FLOATING_26, word), Ok(word));
+        }
+    }
+}
+
+/// The word of floating k = 6 (a field of 5 bits, a slash position of 3), twisted bit by bit.
+fn twisted_bit_by_bit(word: u64) -> u64 {
+    let (e, field) = (word >> 5 & 7, word & 31);
+    if e > 4 {
+        return word;
+    }
+    let denominator = (0..e).map(|bit| (field >> bit & 1) << (4 - bit));
+    word - field + denominator.sum::<u64>() + (field >> e)
+}
+
+#[test]
+fn each_way_undoes_the_other() {
+    let form = Format::floating(6);
+    // Slash positions 5 and 6 are undefined.
+    let words: Vec<u64> = (0..1 << 10)
+        .filter(|word| !matches!(word >> 5 & 7, 5 | 6))
+        .collect();
+    let expected: Vec<u64> = words.iter().copied().map(twisted_bit_by_bit).collect();
+    let mut twisted = vec![0; words.len()];
+    assert_eq!(slash::twist_each(form, &words, &mut twisted), Ok(()));
+    assert_eq!(twisted, expected);
+    let mut back = vec![0; words.len()];
+    assert_eq!(slash::untwist_each(form, &twisted, &mut back), Ok(()));
+    assert_eq!(back, words);
+    for (&word, &twisted) in words.iter().zip(&twisted) {
+        assert_eq!(slash::twist(form, word), Ok(twisted));
+        assert_eq!(slash::untwist(form, twisted), Ok(word));
+        let untwisted = slash::untwist(form, word).expect("a defined slash position");
+        assert_eq!(slash::twist(form, untwisted), Ok(word));
+    }
+}
+
+#[test]
+fn twisting_stops_as_the_papers_say() {
+    let refused = |form, word, number| {
+        let stop = Err(Stop { number, place: 0 });
+        assert_eq!(slash::twist(form, word), stop);
+        assert_eq!(slash::untwist(form, word), stop);
+    };
+    refused(Format::floating(1), 0, 1);
+    refused(Format::floating(33), 0, 1);
+    refused(Format { kind: 3, k: 26 }, 0, 1);
+    // A fixed format, before all else.
+    refused(FIXED_3, 0x13, 1);
+    refused(FIXED_3, 0x100, 1);
+    refused(Format::floating(3), 0x40, 4);
+    refused(Format::floating(3), 0x48, 4);
+    refused(Format::floating(3), 0x08, 5);
+}
+
+#[test]
+fn a_refused_vector_to_twist_leaves_what_is_lent() {
+    let ways = [slash::twist_each, slash::untwist_each];
+    let refused = |form, operand: &[u64], number, place| {
+        for way in ways {
+            let mut out = [7, 8, 9];
+            assert_eq!(way(form, operand, &mut out), Err(Stop { number, place }));
+            assert_eq!(out, [7, 8, 9]);
+        }
+    };
+    refused(FIXED_3, &[0x100], 1, 0);
+    refused(Format::floating(33), &[1], 1, 0);
+    let form = Format::floating(3);
+    refused(form, &[0x40, 1], 3, 0);
+    refused(form, &[1, 1, 0x40], 4, 2);
+    refused(form, &[1, 0x48, 0x08], 4, 1);
+    refused(form, &[1, 0x08, 0x40], 5, 1);
+    assert_eq!(slash::twist_each(form, &[], &mut []), Ok(()));
+}
+
 /// The paper's recording, and what is printed for it.
 const RECORDING: &str = "0\t277\t642\n4294967290\t10\t34\n100\t100\t100\n";
 const LISTING: &str = "1\t01150282\t277/642\t43.1\n2\t00020005\t2/5\t40.0\n3\t00000000\t-\t-\n\

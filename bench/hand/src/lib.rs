@@ -5,6 +5,8 @@
 mod line;
 pub mod load;
 pub mod night;
+pub mod tables;
+pub mod twisting;
 
 pub type Answer = Result<u64, u64>;
 

@@ -87,3 +87,27 @@ pub(crate) fn convert_each(f: Format, to: Format, operand: u64, out: u64, all: &
     let stored = conversion::convert_each(f, to, operands, lent);
     show_stored(checked, stored, lent);
 }
+
+fn each_by_way(f: Format, way: u64, operand: &[u64], out: &mut [u64]) -> Completion {
+    if way == 1 {
+        twisting::twist_each(f, operand, out)
+    } else {
+        twisting::untwist_each(f, operand, out)
+    }
+}
+
+// e KIND K WAY OPERAND OUT WORDS
+pub(crate) fn rearranged_each(f: Format, way: u64, operand: u64, out: u64, all: &[u64]) {
+    if all.len() < 64 {
+        return;
+    }
+    let end = 6 + at_most_16(operand);
+    let n = at_most_16(out);
+    let mut result = [0u64; 16];
+    let lent = &mut result[..n];
+    copy(&all[end..], lent);
+    let operands = &all[6..end];
+    let checked = vectors::check_words(f, operands);
+    let stored = each_by_way(f, way, operands, lent);
+    show_stored(checked, stored, lent);
+}

@@ -35,6 +35,8 @@ fn run_words(line: Line) {
         b'g' => single::gcd(f, a[3]),
         b'G' => single::gcd_all(f),
         b'q' => single::quotients(f, a[3], a[4]),
+        b't' => single::rearranged(f, a[3], a[4]),
+        b'T' => single::rearranged_all(f, a[3]),
         _ => show::text(b"unknown"),
     }
 }
@@ -55,16 +57,17 @@ fn run_vectors(line: Line, all: &[u64]) {
         b'x' => places::binary_each(f, a[3], a[4], a[5], a[6], all),
         b'y' => places::unary_each(f, a[3], a[4], a[5], all),
         b'z' => places::convert_each(f, to, a[5], a[6], all),
+        b'e' => places::rearranged_each(f, a[3], a[4], a[5], all),
         _ => show::text(b"unknown"),
     }
 }
 
 // Runs the request of a line and writes the answer's line.
 pub(crate) fn run(line: Line, all: &[u64]) {
-    if line.letter < b'x' {
-        run_words(line);
-    } else {
+    if line.letter == b'e' || b'x' <= line.letter {
         run_vectors(line, all);
+    } else {
+        run_words(line);
     }
     show::text(b"\n");
 }

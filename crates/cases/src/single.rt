@@ -7,6 +7,7 @@ use crate::show;
 use crate::words::show_number;
 use slash::Answer;
 use slash::Format;
+use slash::Written;
 
 // u KIND K CODE WORD
 pub(crate) fn operation(f: Format, code: u64, w: u64) {
@@ -20,6 +21,31 @@ pub(crate) fn operation_all(f: Format, code: u64) {
     while w < n {
         show::separator(w == 0);
         show_one(unary::unary(f, code, w));
+        w += 1;
+    }
+}
+
+// A word twisted by way 1, untwisted by any other.
+fn by_way(f: Format, way: u64, w: u64) -> Written {
+    if way == 1 {
+        twisting::twist(f, w)
+    } else {
+        twisting::untwist(f, w)
+    }
+}
+
+// t KIND K WAY WORD
+pub(crate) fn rearranged(f: Format, way: u64, w: u64) {
+    show_word(by_way(f, way, w));
+}
+
+// T KIND K WAY
+pub(crate) fn rearranged_all(f: Format, way: u64) {
+    let n = count(f);
+    let mut w: u64 = 0;
+    while w < n {
+        show::separator(w == 0);
+        show_one(by_way(f, way, w));
         w += 1;
     }
 }

@@ -1,6 +1,7 @@
 -- What a call returns and leaves behind a pointer. Assumes nothing.
 -- `status-stop`, `status-done`: the stop's number and place, and nothing stored; or 0, and the result stored. `vector-stop`, `vector-done`:
--- what a vector form returns; `vector-as`: and what stands in the vector. `stored-best`, `stored-made`: and the clause `best` is handed on.
+-- what a vector form returns; `vector-plain`, `vector-as`: and what stands in the vector, without the clause `best` and with it.
+-- `stored-best`, `stored-made`: and the clause `best` is handed on.
 -- `loaded-done`, `loaded-stop`: what loading returns, and stores behind two pointers.
 use mathlib.Core.Path.{_≡_, refl, sym, ap, _∙_, subst}
 use mathlib.Core.List.{List}
@@ -65,12 +66,15 @@ unfolding stopOnly
 when-stop-only (stop n i) X w = w
 when-stop-only (done x) X w = w
 
+pub vector-plain : (o : Outcome (List ℕ)) (v : Completion) (r : ℕ) (old new : List ℕ) → (completionOutcome v ≡ stopOnly o) × (new ≡ vectorAfter o old)
+    → r ≡ status (completionOutcome v) → (r ≡ status o) × (new ≡ vectorAfter o old)
+vector-plain o v r old new s e = (e ∙ ap status (s .0) ∙ status-stop-only o, s .1)
+
 pub vector-as : (o : Outcome (List ℕ)) (v : Completion) (X : Type 0) (r : ℕ) (old new : List ℕ) → (completionOutcome v ≡ stopOnly o) × ((new ≡ vectorAfter o old) × WhenDone (completionOutcome v) (λ _. X))
     → r ≡ status (completionOutcome v) → (r ≡ status o) × ((new ≡ vectorAfter o old) × WhenDone o (λ _. X))
-vector-as o v X r old new s e = (
-  e ∙ ap status (s .0) ∙ status-stop-only o,
-  (s .1 .0, when-stop-only o X (subst (λ (p : Outcome (Unit {0})). WhenDone p (λ _. X)) (s .0) (s .1 .1))),
-)
+vector-as o v X r old new s e =
+    let t = vector-plain o v r old new (s .0, s .1 .0) e in
+    (t .0, (t .1, when-stop-only o X (subst (λ (p : Outcome (Unit {0})). WhenDone p (λ _. X)) (s .0) (s .1 .1))))
 
 -- what loading answers, and leaves behind two pointers
 module _ (o : Outcome Counted) (l : Loaded) (e : loadedOutcome l ≡ o) (old older : ℕ) where

@@ -7,6 +7,7 @@ ghost use Rattle.vectors.specs.Places.{places};
 ghost use Rattle.arithmetic.specs.Each.{binaryEach, BestBinary};
 ghost use Rattle.conversion.specs.Each.{convertEach, BestConverted};
 ghost use Rattle.unary.specs.Each.{unaryEach, BestUnary};
+ghost use Rattle.twisting.specs.Each.{twistEach, untwistEach};
 ghost use Rattle.ffi.specs.Status.{status};
 use crate::status::of_vector;
 use slash::Format;
@@ -66,4 +67,24 @@ pub extern "C" fn slash_convert_each(
         k: tok,
     };
     of_vector(conversion::convert_each(source, target, operand, out))
+}
+
+// Plain floating words twisted at each place. Stops 1 (for a fixed format too), 3, 4, 5.
+#[no_mangle]
+pub extern "C" fn slash_twist_each(kind: u64, k: u64, operand: &[u64], out: &mut [u64]) -> u64
+    ensures returned { λ r. ⌜ r ≡ status (twistEach (formatOf kind k) (now (operand .entry)) (now (out .entry))) ⌝ }
+    ensures stored { λ _. ⌜ now (out .exit) ≡ vectorAfter (twistEach (formatOf kind k) (now (operand .entry)) (now (out .entry))) (now (out .entry)) ⌝ }
+{
+    let f = Format { kind: kind, k: k };
+    of_vector(twisting::twist_each(f, operand, out))
+}
+
+// Twisted words untwisted at each place. Stops 1 (for a fixed format too), 3, 4, 5.
+#[no_mangle]
+pub extern "C" fn slash_untwist_each(kind: u64, k: u64, operand: &[u64], out: &mut [u64]) -> u64
+    ensures returned { λ r. ⌜ r ≡ status (untwistEach (formatOf kind k) (now (operand .entry)) (now (out .entry))) ⌝ }
+    ensures stored { λ _. ⌜ now (out .exit) ≡ vectorAfter (untwistEach (formatOf kind k) (now (operand .entry)) (now (out .entry))) (now (out .entry)) ⌝ }
+{
+    let f = Format { kind: kind, k: k };
+    of_vector(twisting::untwist_each(f, operand, out))
 }

@@ -13,6 +13,7 @@ ghost use Rattle.conversion.specs.Conversion.{convertWord};
 ghost use Rattle.unary.specs.Operations.{exactUnary, unaryWord};
 ghost use Rattle.euclid.specs.Divisor.{gcdWord};
 ghost use Rattle.euclid.specs.Quotients.{wordQuotients, quotientCount, quotientsAfter};
+ghost use Rattle.twisting.specs.Twisting.{twistWord, untwistWord};
 ghost use Rattle.ffi.specs.Status.{status, behind};
 use crate::status::store;
 use crate::status::store_word;
@@ -120,6 +121,26 @@ pub extern "C" fn slash_convert(
         k: tok,
     };
     store_word(conversion::convert(source, target, operand), word)
+}
+
+// A plain floating word as the twisted one. Stops 1 (for a fixed format too), 4, 5.
+#[no_mangle]
+pub extern "C" fn slash_twist(kind: u64, k: u64, word: u64, twisted: &mut u64) -> u64
+    ensures returned { λ r. ⌜ r ≡ status (twistWord (formatOf kind k) word) ⌝ }
+    ensures stored { λ _. ⌜ now (twisted .exit) ≡ behind (twistWord (formatOf kind k) word) (now (twisted .entry)) ⌝ }
+{
+    let f = Format { kind: kind, k: k };
+    store_word(twisting::twist(f, word), twisted)
+}
+
+// A twisted word as the plain one. Stops 1 (for a fixed format too), 4, 5.
+#[no_mangle]
+pub extern "C" fn slash_untwist(kind: u64, k: u64, twisted: u64, word: &mut u64) -> u64
+    ensures returned { λ r. ⌜ r ≡ status (untwistWord (formatOf kind k) twisted) ⌝ }
+    ensures stored { λ _. ⌜ now (word .exit) ≡ behind (untwistWord (formatOf kind k) twisted) (now (word .entry)) ⌝ }
+{
+    let f = Format { kind: kind, k: k };
+    store_word(twisting::untwist(f, twisted), word)
 }
 
 // The partial quotients into a lent list, and their count. Stops 1, 4, 5, 7.

@@ -74,6 +74,14 @@ fn answer(letter: &str, numbers: &[u64]) -> Answer<String> {
                 out,
             ))
         }
+        ("e", &[kind, k, way, length, _, ref words @ ..]) => {
+            let (operand, out) = words.split_at(length as usize);
+            Ok(vector_answer(
+                paper::check_operands((kind, k), &[operand]),
+                |out| twisted_each((kind, k), way, operand, out),
+                out,
+            ))
+        }
         (_, &[kind, k, ref rest @ ..]) => format_answer(letter, paper::format(kind, k)?, rest),
         _ => panic!("unknown request {letter} {numbers:?}"),
     }
@@ -130,11 +138,30 @@ fn format_answer(letter: &str, form: Format, numbers: &[u64]) -> Answer<String> 
         ("U", &[code]) => Ok(each(form, |word| {
             hexadecimal(paper::unary(form, code, word))
         })),
+        ("t", &[way, word]) => hexadecimal(twisted(form, way, word)),
+        ("T", &[way]) => Ok(each(form, |word| hexadecimal(twisted(form, way, word)))),
         ("g", &[word]) => paper::gcd(form, word).map(|divisor| divisor.to_string()),
         ("G", []) => Ok(each(form, |word| {
             paper::gcd(form, word).map(|divisor| divisor.to_string())
         })),
         _ => panic!("unknown request {letter} {numbers:?}"),
+    }
+}
+
+/// The word that a way gives: 1 twists, 2 untwists.
+fn twisted(form: Format, way: u64, word: u64) -> Answer<u64> {
+    match way {
+        1 => paper::twist(form, word),
+        2 => paper::untwist(form, word),
+        _ => panic!("unknown way {way}"),
+    }
+}
+
+fn twisted_each(form: (u64, u64), way: u64, operand: &[u64], out: &mut [u64]) -> Answer<()> {
+    match way {
+        1 => paper::twist_each(form, operand, out),
+        2 => paper::untwist_each(form, operand, out),
+        _ => panic!("unknown way {way}"),
     }
 }
 

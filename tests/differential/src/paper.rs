@@ -1,4 +1,5 @@
-//! Slash arithmetic from documents 00 and 01 alone: formats, words, rounding, operations, vectors.
+//! Slash arithmetic from documents 00 and 01 alone: formats, words, rounding, operations, vectors; and from
+//! CR 4 of 02 the twisted storage of words.
 //!
 //! Nothing here goes by convergents but `convergents` itself: a rounded pair is found by what demand 3
 //! says of it. Numbers are 128 bits wide, so that no product of parts and ratios can wrap.
@@ -566,6 +567,55 @@ pub fn quotients(form: Format, word: u64, list: &mut [u32]) -> Answer<u64> {
     Ok(quotients.len() as u64)
 }
 
+// Twisted storage.
+
+/// The twisted word of a plain one; stop 1 for a fixed format, then the word's stops.
+pub fn twist(form: Format, word: u64) -> Answer<u64> {
+    rearrange(form, word, |e, plain| {
+        let (numerator, denominator) = (plain >> e, lowest(e, plain));
+        turned(form, denominator) | numerator
+    })
+}
+
+/// The plain word of a twisted one; stop 1 for a fixed format, then the word's stops.
+pub fn untwist(form: Format, word: u64) -> Answer<u64> {
+    rearrange(form, word, |e, twisted| {
+        let numerator = lowest(form.k - 1 - e, twisted);
+        let denominator = lowest(e, turned(form, twisted));
+        numerator << e | denominator
+    })
+}
+
+/// A good word with its field changed by the slash position, unless it is an infinity or a not-a-number.
+/// Both layouts have the slash position at one place, so that reading a word as a plain one checks it.
+fn rearrange(form: Format, word: u64, field: impl Fn(u32, u128) -> u128) -> Answer<u64> {
+    check_floating(form)?;
+    match read(form, word)?.size {
+        Infinite | NotANumber => Ok(word),
+        Finite(_) => {
+            let [_, _, e, f] = fields(form, word);
+            Ok((u128::from(word) - f + field(e as u32, f)) as u64)
+        }
+    }
+}
+
+fn check_floating(form: Format) -> Answer<()> {
+    match form.kind {
+        Kind::Fixed => stop(1),
+        Kind::Floating => Ok(()),
+    }
+}
+
+/// So many of a number's lowest bits.
+fn lowest(count: u32, number: u128) -> u128 {
+    number & ((1 << count) - 1)
+}
+
+/// A field with all its bits in the opposite order, "twisting the wires": the lowest one leftmost.
+fn turned(form: Format, f: u128) -> u128 {
+    f.reverse_bits() >> (u128::BITS - (form.k - 1))
+}
+
 // Vectors. Each form stores nothing where it stops.
 
 /// A binary code at each place; stops 1, 2, 3, then the words'.
@@ -612,6 +662,28 @@ pub fn convert_each(
         operand.iter().map(|&word| convert(source, target, word)),
         out,
     )
+}
+
+/// Twists at each place; stop 1, for a fixed format too, 3, then the words'.
+pub fn twist_each(form: (u64, u64), operand: &[u64], out: &mut [u64]) -> Answer<()> {
+    rearrange_each(form, operand, out, twist)
+}
+
+/// Untwists at each place; stop 1, for a fixed format too, 3, then the words'.
+pub fn untwist_each(form: (u64, u64), operand: &[u64], out: &mut [u64]) -> Answer<()> {
+    rearrange_each(form, operand, out, untwist)
+}
+
+fn rearrange_each(
+    (kind, k): (u64, u64),
+    operand: &[u64],
+    out: &mut [u64],
+    way: impl Fn(Format, u64) -> Answer<u64>,
+) -> Answer<()> {
+    let form = format(kind, k)?;
+    check_floating(form)?;
+    check_lengths(operand.len() == out.len())?;
+    store(operand.iter().map(|&word| way(form, word)), out)
 }
 
 /// Stop 1, then 3 for operands of unequal length, then the words', at a place the first operand's first.
@@ -690,6 +762,42 @@ mod tests {
                 let found = best(neighbours(form, n, d).into_iter(), n, d);
                 assert_eq!(found, best(pairs.iter().copied(), n, d), "{form:?} {n}/{d}");
             }
+        }
+    }
+    /// CR 4's example: 355/113 in k = 26.
+    #[test]
+    fn the_example_twists_both_ways() {
+        let form = format(2, 26).unwrap();
+        for (negative, marked) in [(false, false), (false, true), (true, false), (true, true)] {
+            let plain = floating_word(form, negative, marked, 6, 22769);
+            let twisted = floating_word(form, negative, marked, 6, 18350435);
+            assert_eq!(plain, pair_word(form, negative, (355, 113), marked));
+            assert_eq!(twist(form, plain), Ok(twisted));
+            assert_eq!(untwist(form, twisted), Ok(plain));
+        }
+    }
+
+    /// Each way undoes the other, and the numerator stands at the right.
+    #[test]
+    fn each_way_undoes_the_other() {
+        for form in all_formats().filter(|form| form.width() <= 16) {
+            for word in 0..1 << form.width() {
+                let expected = check_floating(form).and(read(form, word).map(|_| word));
+                let twisted = twist(form, word);
+                assert_eq!(twisted.and_then(|word| untwist(form, word)), expected);
+                let plain = untwist(form, word);
+                assert_eq!(plain.and_then(|word| twist(form, word)), expected);
+                if let (Ok(twisted), Ok(number)) = (twisted, read(form, word)) {
+                    check_numerator(form, twisted, number.size);
+                }
+            }
+        }
+    }
+
+    fn check_numerator(form: Format, twisted: u64, size: Size) {
+        let [_, _, e, f] = fields(form, twisted);
+        if let Finite((numerator, _)) = size {
+            assert_eq!(f % (1 << (u128::from(form.k) - 1 - e)), numerator);
         }
     }
 }

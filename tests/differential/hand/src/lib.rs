@@ -7,6 +7,8 @@
 //! As for the archive: pointers are aligned and not null, and have the lengths that are given.
 #![allow(clippy::missing_safety_doc)]
 
+pub mod tables;
+
 use std::slice::{from_raw_parts, from_raw_parts_mut};
 
 /// Stores an answer, or returns the stop's place times 256 plus its number.
@@ -94,6 +96,16 @@ pub unsafe extern "C" fn slash_quotients(
 }
 
 #[cfg_attr(not(feature = "unnamed"), no_mangle)]
+pub unsafe extern "C" fn slash_twist(kind: u64, k: u64, word: u64, twisted: *mut u64) -> u64 {
+    store(hand::twisting::twist(kind, k, word), twisted)
+}
+
+#[cfg_attr(not(feature = "unnamed"), no_mangle)]
+pub unsafe extern "C" fn slash_untwist(kind: u64, k: u64, twisted: u64, word: *mut u64) -> u64 {
+    store(hand::twisting::untwist(kind, k, twisted), word)
+}
+
+#[cfg_attr(not(feature = "unnamed"), no_mangle)]
 pub unsafe extern "C" fn slash_binary_each(
     kind: u64,
     k: u64,
@@ -142,6 +154,34 @@ pub unsafe extern "C" fn slash_convert_each(
     let operand = from_raw_parts(operand, operand_length);
     let out = from_raw_parts_mut(out, out_length);
     status(hand::convert_each(kind, k, to_kind, to_k, operand, out))
+}
+
+#[cfg_attr(not(feature = "unnamed"), no_mangle)]
+pub unsafe extern "C" fn slash_twist_each(
+    kind: u64,
+    k: u64,
+    operand: *const u64,
+    operand_length: usize,
+    out: *mut u64,
+    out_length: usize,
+) -> u64 {
+    let operand = from_raw_parts(operand, operand_length);
+    let out = from_raw_parts_mut(out, out_length);
+    status(hand::twisting::twist_each(kind, k, operand, out))
+}
+
+#[cfg_attr(not(feature = "unnamed"), no_mangle)]
+pub unsafe extern "C" fn slash_untwist_each(
+    kind: u64,
+    k: u64,
+    operand: *const u64,
+    operand_length: usize,
+    out: *mut u64,
+    out_length: usize,
+) -> u64 {
+    let operand = from_raw_parts(operand, operand_length);
+    let out = from_raw_parts_mut(out, out_length);
+    status(hand::twisting::untwist_each(kind, k, operand, out))
 }
 
 #[cfg_attr(not(feature = "unnamed"), no_mangle)]

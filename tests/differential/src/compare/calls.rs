@@ -175,6 +175,20 @@ impl Harness {
         );
     }
 
+    pub fn twist(&mut self, form: (u64, u64), word: u64) {
+        let (kind, k) = form;
+        let archive = stored(|twisted| unsafe { raw::slash_twist(kind, k, word, twisted) });
+        let papers = paper::format(kind, k).and_then(|form| paper::twist(form, word));
+        self.hold("slash_twist", (form, word), archive, told(papers));
+    }
+
+    pub fn untwist(&mut self, form: (u64, u64), twisted: u64) {
+        let (kind, k) = form;
+        let archive = stored(|word| unsafe { raw::slash_untwist(kind, k, twisted, word) });
+        let papers = paper::format(kind, k).and_then(|form| paper::untwist(form, twisted));
+        self.hold("slash_untwist", (form, twisted), archive, told(papers));
+    }
+
     // Calls on vectors.
 
     /// Holds a vector form to the papers: what it returns and what it leaves in a lent result.
@@ -245,6 +259,32 @@ impl Harness {
                 raw::slash_convert_each(kind, k, to_kind, to_k, words, count, out, out_count)
             },
             |out| paper::convert_each(form, target, operand, out),
+        );
+    }
+
+    pub fn twist_each(&mut self, form: (u64, u64), operand: &[u64], length: usize) {
+        let (kind, k) = form;
+        self.hold_each(
+            "slash_twist_each",
+            (form, operand, length),
+            length,
+            |out, count| unsafe {
+                raw::slash_twist_each(kind, k, operand.as_ptr(), operand.len(), out, count)
+            },
+            |out| paper::twist_each(form, operand, out),
+        );
+    }
+
+    pub fn untwist_each(&mut self, form: (u64, u64), operand: &[u64], length: usize) {
+        let (kind, k) = form;
+        self.hold_each(
+            "slash_untwist_each",
+            (form, operand, length),
+            length,
+            |out, count| unsafe {
+                raw::slash_untwist_each(kind, k, operand.as_ptr(), operand.len(), out, count)
+            },
+            |out| paper::untwist_each(form, operand, out),
         );
     }
 

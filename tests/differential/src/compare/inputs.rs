@@ -107,6 +107,14 @@ impl Source {
         (self.formats[at].kind_number(), self.formats[at].k.into())
     }
 
+    /// The kind and k of a floating format, one time in eight of any or of none.
+    pub fn floating_format(&mut self) -> (u64, u64) {
+        match self.below(8) {
+            0 => self.format(),
+            _ => (2, 2 + self.below(31)),
+        }
+    }
+
     /// A code from 1 to the last, one time in 64 some other number.
     pub fn code(&mut self, last: u64) -> u64 {
         if self.below(64) == 0 {

@@ -43,6 +43,9 @@ fn exhaustive_part(harness: &mut Harness, source: &mut Source) {
     every_word(harness);
     every_small_ratio(harness);
     whole_vectors(harness);
+    every_twisted_word(harness);
+    every_slash_position(harness);
+    whole_vectors_twisted(harness);
     every_short_recording(harness);
     long_recordings(harness, source);
     listings::every_listing(harness, source);
@@ -121,6 +124,56 @@ fn vectors_of(form: Format) -> [Vec<u64>; 2] {
     [words.clone().filter(is_good).collect(), words.collect()]
 }
 
+/// All words of the small formats and one beyond them, both ways.
+fn every_twisted_word(harness: &mut Harness) {
+    for form in all_formats().filter(|form| form.width() <= 12) {
+        for word in 0..=1 << form.width() {
+            harness.twist(numbers_of(form), word);
+            harness.untwist(numbers_of(form), word);
+        }
+    }
+}
+
+/// Every slash position of every floating format, the undefined ones too, with runs of bits as fields, both
+/// ways: each word alone, then the good ones in vectors.
+fn every_slash_position(harness: &mut Harness) {
+    for form in all_formats().filter(|form| form.kind == Kind::Floating) {
+        let heads = 0..1 << (form.width() - (form.k - 1));
+        let word = |head: u64, field: u64| (head << (form.k - 1)) + field;
+        let words: Vec<u64> = heads
+            .flat_map(|head| runs_of_bits(form).map(move |field| word(head, field)))
+            .collect();
+        for &word in &words {
+            harness.twist(numbers_of(form), word);
+            harness.untwist(numbers_of(form), word);
+        }
+        let is_good = |&word: &u64| paper::read(form, word).is_ok();
+        let good: Vec<u64> = words.into_iter().filter(is_good).collect();
+        for operand in good.chunks(100) {
+            harness.twist_each(numbers_of(form), operand, operand.len());
+            harness.untwist_each(numbers_of(form), operand, operand.len());
+        }
+    }
+}
+
+/// Each bit of a floating word's field alone, with all bits below it, and with all bits above it.
+fn runs_of_bits(form: Format) -> impl Iterator<Item = u64> {
+    let end = 1u64 << (form.k - 1);
+    (0..form.k - 1)
+        .map(|place| 1 << place)
+        .flat_map(move |bit| [bit, 2 * bit - 1, end - bit])
+}
+
+/// The words of the smallest formats as vectors, both ways, with results as long, shorter and longer.
+fn whole_vectors_twisted(harness: &mut Harness) {
+    for (form, operand) in smallest_formats().flat_map(|form| vectors_of(form).map(|v| (form, v))) {
+        for length in operand.len() - 1..=operand.len() + 1 {
+            harness.twist_each(numbers_of(form), &operand, length);
+            harness.untwist_each(numbers_of(form), &operand, length);
+        }
+    }
+}
+
 /// Every recording of at most seven bytes that are digits 0 and 1, tabs and line feeds.
 fn every_short_recording(harness: &mut Harness) {
     let bytes = *b"01\t\n";
@@ -159,7 +212,7 @@ fn long_recordings(harness: &mut Harness, source: &mut Source) {
 /// One call, of any function, of a good or a strange format.
 fn random_call(harness: &mut Harness, source: &mut Source) {
     let form = source.format();
-    match source.below(21) {
+    match source.below(23) {
         0..=5 => {
             let (left, right) = source.operands(form);
             harness.binary(form, source.code(4), left, right);
@@ -182,6 +235,7 @@ fn random_call(harness: &mut Harness, source: &mut Source) {
         }
         17 | 18 => random_vectors(harness, source, form),
         19 => listings::random_listing(harness, source),
+        20 | 21 => random_twists(harness, source),
         _ => {
             let lines = source.below(9) as usize;
             let mut recording = source.recording(lines);
@@ -189,6 +243,19 @@ fn random_call(harness: &mut Harness, source: &mut Source) {
             let whole_rest = source.below(1024) == 0;
             harness.night(&recording, whole_rest);
         }
+    }
+}
+
+/// One way or the other, of a word or a vector.
+fn random_twists(harness: &mut Harness, source: &mut Source) {
+    let form = source.floating_format();
+    let length = source.length();
+    let out = source.other_length(length);
+    match source.below(4) {
+        0 => harness.twist(form, source.word(form)),
+        1 => harness.untwist(form, source.word(form)),
+        2 => harness.twist_each(form, &source.vector(form, length), out),
+        _ => harness.untwist_each(form, &source.vector(form, length), out),
     }
 }
 

@@ -21,4 +21,4 @@ returns c = search needs
 pub run-spec : {M : Type 1} → statement M
 run-spec =
     tie.close
-    (tie.spec run-words-requires run-vectors-requires slice-aggregate-text text-requires returns)
+    (tie.spec run-vectors-requires run-words-requires slice-aggregate-text text-requires returns)

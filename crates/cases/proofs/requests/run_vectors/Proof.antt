@@ -51,6 +51,18 @@ array-read-convert-each-2 c = search needs
 convert-each-requires : tie.Need-convert-each-requires
 convert-each-requires c κs = search needs
 
+array-read-rearranged-each : tie.Need-array-read-rearranged-each
+array-read-rearranged-each c = search needs
+
+array-read-rearranged-each-2 : tie.Need-array-read-rearranged-each-2
+array-read-rearranged-each-2 c = search needs
+
+array-read-rearranged-each-3 : tie.Need-array-read-rearranged-each-3
+array-read-rearranged-each-3 c = search needs
+
+rearranged-each-requires : tie.Need-rearranged-each-requires
+rearranged-each-requires c κs = search needs
+
 slice-aggregate-text : tie.Need-slice-aggregate-text
 slice-aggregate-text c = search needs
 
@@ -68,6 +80,9 @@ returns-3 c = search needs
 
 returns-4 : tie.Need-returns-4
 returns-4 c = search needs
+
+returns-5 : tie.Need-returns-5
+returns-5 c = search needs
 
 pub run-vectors-spec : {M : Type 1} → statement M
 run-vectors-spec =
@@ -89,9 +104,14 @@ run-vectors-spec =
     array-read-convert-each
     array-read-convert-each-2
     convert-each-requires
+    array-read-rearranged-each
+    array-read-rearranged-each-2
+    array-read-rearranged-each-3
+    rearranged-each-requires
     slice-aggregate-text
     text-requires
     returns
     returns-2
     returns-3
-    returns-4)
+    returns-4
+    returns-5)
