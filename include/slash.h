@@ -18,10 +18,11 @@
  *
  *   Each function returns 0 where nothing stopped. Otherwise it returns the place times 256 plus the
  *   stop's number (SLASH_STOP_NUMBER, SLASH_STOP_PLACE), and changes nothing behind any pointer. The
- *   place is an index from 0 in the vector functions' stops 4 and 5, a line from 1 in slash_night's and
- *   in slash_load's 13 to 15, else 0. Where several stops would apply, the checks run in the order of the
- *   numbers, but slash_load's 7 comes last; of words, the lowest place comes first, then the left
- *   operand, and within one word 4 before 5; of a recording or a listing, the first bad line.
+ *   place is an index from 0 in the vector functions' stops 4 and 5 and in slash_timings's 17 and 18, a
+ *   line from 1 in slash_night's and in slash_load's 13 to 15, else 0. Where several stops would apply, the
+ *   checks run in the order of the numbers, but slash_load's 7 comes last and slash_timings's 16 first; of
+ *   words, the lowest place comes first, then the left operand, and within one word 4 before 5; of
+ *   records, the lowest place; of a recording or a listing, the first bad line.
  *
  * What the caller owes
  *
@@ -65,10 +66,14 @@ extern "C" {
 #define SLASH_ABOVE 2
 #define SLASH_UNORDERED 3
 
+/* Kinds of the scoring package's records, for slash_timings. */
+#define SLASH_RECORD_TIMINGS 1
+#define SLASH_RECORD_RATIO 2
+
 /* Stops. (12 is reserved: no call returns it.) */
 #define SLASH_UNKNOWN_FORMAT 1           /* unknown kind or k, or a fixed format given to twisting */
 #define SLASH_UNKNOWN_CODE 2             /* unknown operation code */
-#define SLASH_UNEQUAL_LENGTHS 3          /* vectors of unequal length */
+#define SLASH_UNEQUAL_LENGTHS 3          /* vectors of unequal length, or other than one place a record */
 #define SLASH_BITS_ABOVE_WIDTH 4         /* word with bits above its width */
 #define SLASH_UNDEFINED_SLASH_POSITION 5 /* floating word whose e lies between k - 1 and 2^L - 2 */
 #define SLASH_DENOMINATOR_ZERO 6         /* denominator 0 given to rounding */
@@ -80,6 +85,9 @@ extern "C" {
 #define SLASH_BAD_LISTED_LINE 13         /* line without the shape of a listed one */
 #define SLASH_OUT_OF_SEQUENCE 14         /* number or `all` out of sequence, as slash_load says */
 #define SLASH_BAD_LISTED_WORD 15         /* word that no listing has, or columns of another */
+#define SLASH_CUT_RECORD 16              /* byte count not a multiple of SLASH_RECORD_BYTES */
+#define SLASH_UNKNOWN_RECORD 17          /* record of an unknown kind */
+#define SLASH_BAD_RECORD_NUMBER 18       /* number that slash_timings doesn't take in such a record */
 
 /* A returned number that isn't 0, taken apart. */
 #define SLASH_STOP_NUMBER(returned) ((returned) % 256)
@@ -90,6 +98,9 @@ extern "C" {
 
 /* The most breaths of a listing: lists of so many places are never too short for slash_load. */
 #define SLASH_MOST_BREATHS 65536
+
+/* The bytes of one record that slash_timings takes. */
+#define SLASH_RECORD_BYTES 12
 
 /* Stores the word, of sign 0, of n/d rounded into the format: the last convergent that it holds,
  * marked if its value isn't n/d. Every other held pair r/s has a larger miss (the size of s * n - r * d),
@@ -202,6 +213,32 @@ uint64_t slash_night(const uint8_t *recording, size_t recording_length, uint8_t 
 uint64_t slash_load(const uint8_t *text, size_t text_length, uint64_t *numbers,
                     size_t numbers_length, uint64_t *words, size_t words_length, uint64_t *count,
                     uint64_t *total);
+
+/* Stores the words, in fixed k = 15, of the ratios that a scoring package exported: words[i] from record
+ * i alone. A record has SLASH_RECORD_BYTES bytes, a 32-bit kind and then two binary32 numbers, all
+ * lowest byte first:
+ *
+ *   SLASH_RECORD_TIMINGS   seconds of inspiration, then of the whole breath; both from 2^-10 to below
+ *                          2^10, the first no larger than the second
+ *   SLASH_RECORD_RATIO     the ratio itself, from 2^-10 to 1, then a number whose bits are all 0
+ *
+ * The ratio is formed exactly from the numbers' bits and rounded as slash_round says: no such word misses
+ * it by less, and the mark is 1 where the word's value isn't the ratio. (A ratio of 1/32768 or less is no
+ * stop: its word is that of 0/1, marked.) Stops, in this order:
+ *
+ *   16   a byte count, records_length, that is not a multiple of SLASH_RECORD_BYTES
+ *   3    words has not exactly one place for each record
+ *
+ * then of the lowest bad record, with its index as place:
+ *
+ *   17   an unknown kind
+ *   18   a number that breaks these rules, as do all subnormal or negative ones, infinities and NaNs, and
+ *        the negative zero as a ratio's second number
+ *
+ * All records are checked before anything is stored. No bytes and no places is good (the pointers aren't
+ * null even so). */
+uint64_t slash_timings(const uint8_t *records, size_t records_length, uint64_t *words,
+                       size_t words_length);
 
 #ifdef __cplusplus
 }

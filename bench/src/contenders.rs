@@ -234,6 +234,23 @@ pub fn loaded(load: Load, listing: &[u8], lent: &mut Lent) -> u64 {
     }
 }
 
+/// A function that rounds records of timings through the C interface.
+pub type Timings = unsafe extern "C" fn(*const u8, usize, *mut u64, usize) -> u64;
+
+/// The archive's, then the hand-written one in lanes, then the one that goes record by record.
+pub const TIMINGS: [Timings; 3] = [
+    slash::raw::slash_timings,
+    hand_calls::slash_timings,
+    hand_calls::by_record::slash_timings,
+];
+
+/// What the function returns for records.
+pub fn rounded(timings: Timings, records: &[u8], words: &mut [u64]) -> u64 {
+    let (start, length) = (records.as_ptr(), records.len());
+    // SAFETY: the pointers are those of live bytes and words, with their lengths.
+    unsafe { timings(start, length, words.as_mut_ptr(), words.len()) }
+}
+
 /// Makes GMP's numbers, once.
 pub fn start_gmp() {
     // SAFETY: called once, from one thread.

@@ -78,4 +78,47 @@ impl Source {
         }
         recording
     }
+
+    /// A record of a breath like a sleeper's: 0.5 to 4 seconds in, 2 to 8 in all.
+    pub fn breath_record(&mut self) -> [u8; 12] {
+        loop {
+            let inward = 0.5 + 3.5 * self.share();
+            let whole = 2.0 + 6.0 * self.share();
+            if inward <= whole {
+                return record([1, inward.to_bits(), whole.to_bits()]);
+            }
+        }
+    }
+
+    /// A good record of either kind, each pattern of bits being as likely as any other.
+    pub fn any_record(&mut self) -> [u8; 12] {
+        if self.below(2) == 0 {
+            let [one, other] = [(); 2].map(|()| self.between(SMALLEST, END - 1));
+            return record([1, one.min(other), one.max(other)]);
+        }
+        record([2, self.between(SMALLEST, ONE), 0])
+    }
+
+    /// A number from 0 to below 1, of 24 bits.
+    fn share(&mut self) -> f32 {
+        self.below(1 << 24) as f32 / (1 << 24) as f32
+    }
+
+    fn between(&mut self, first: u32, last: u32) -> u32 {
+        first + self.below(u64::from(last - first) + 1) as u32
+    }
+}
+
+/// The bits of 2^-10, 1 and 2^10.
+const SMALLEST: u32 = 0x3a80_0000;
+const ONE: u32 = 0x3f80_0000;
+const END: u32 = 0x4480_0000;
+
+/// The bytes of a record: its kind and the bits of its numbers.
+pub fn record(parts: [u32; 3]) -> [u8; 12] {
+    let mut bytes = [0; 12];
+    for (place, part) in bytes.chunks_mut(4).zip(parts) {
+        place.copy_from_slice(&part.to_le_bytes());
+    }
+    bytes
 }

@@ -8,6 +8,7 @@ mod contenders;
 mod inputs;
 mod loading;
 mod tables;
+mod timings;
 
 use contenders::{folded, listed, Operation, Row, NIGHTS};
 use inputs::Source;
@@ -55,6 +56,7 @@ fn main() {
         table_of_nights(&recording, &room, Path::new(folder), night)
     );
     print!("{}", loading::section(&recording));
+    print!("{}", timings::section(&mut source));
     fs::remove_dir_all(&room).expect("the temporary folder");
 }
 

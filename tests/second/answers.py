@@ -2,6 +2,7 @@
 
 import operations
 import slash
+import timings
 import twisting
 import vectors
 
@@ -235,7 +236,22 @@ def parted(words, *lengths):
 
 def vector_text(checked, told, out):
     """What the check and the operation told, and the lent result after both."""
-    return " ".join([checked, told, *("%x" % word for word in out)])
+    return "%s %s" % (checked, lent_text(told, out))
+
+
+def lent_text(told, out):
+    """What a call told, and the lent result after it."""
+    return " ".join([told, *("%x" % word for word in out)])
+
+
+# Timings. The records' bytes and the lent result's words come after both lengths.
+
+
+def answer_timings(length, out_length, *numbers):
+    """i: the ratios of the scoring package's records."""
+    exported, out = parted(numbers, length, out_length)
+    told = told_text(timings.store_ratios, bytes(exported), out)
+    return lent_text(told, out)
 
 
 # The dispatcher.
@@ -281,6 +297,7 @@ ANSWERS = {
     "t": answer_twist,
     "T": answer_twist_each,
     "e": answer_twist_vector,
+    "i": answer_timings,
 }
 
 

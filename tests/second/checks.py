@@ -15,6 +15,7 @@ from cases_common import chosen, small_formats
 from cases_night import EXAMPLE, EXAMPLE_LISTING, next_to, ties
 from checks_listings import check_listings
 from checks_source import check_source
+from checks_timings import check_timings
 from checks_twisting import check_twisting
 from slash import FIXED, FRACTION, ZERO
 
@@ -162,6 +163,7 @@ def check_all():
     check_quotients()
     check_vectors()
     check_twisting()
+    check_timings()
     check_night()
     check_ties()
     check_listings()

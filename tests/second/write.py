@@ -11,6 +11,7 @@ import cases_load
 import cases_night
 import cases_print
 import cases_source
+import cases_timings
 import cases_twisting
 import cases_unary
 import cases_vectors
@@ -27,6 +28,7 @@ CASE_MODULES = [
     cases_unary,
     cases_vectors,
     cases_twisting,
+    cases_timings,
 ]
 
 

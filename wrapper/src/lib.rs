@@ -27,8 +27,8 @@ impl Format {
     }
 }
 
-/// A refused call: the stop's number, from 1 to 15 but never 12, and its place: the index in a vector, the
-/// line of a recording or a listing, else 0.
+/// A refused call: the stop's number, from 1 to 18 but never 12, and its place: the index in a vector or of
+/// a record, the line of a recording or a listing, else 0.
 #[derive(Clone, Copy, Debug, PartialEq, Eq)]
 pub struct Stop {
     pub number: u8,
@@ -52,7 +52,7 @@ impl fmt::Display for Stop {
         let meaning = match self.number {
             1 => "unknown kind or k, or a fixed format given to twisting",
             2 => "unknown operation code",
-            3 => "vectors of unequal length",
+            3 => "vectors of unequal length, or other than one place a record",
             4 => "word with bits above its width",
             5 => "undefined slash position",
             6 => "denominator 0 given to rounding",
@@ -64,6 +64,9 @@ impl fmt::Display for Stop {
             13 => "a line without the shape of a listed one",
             14 => "a number out of sequence, or `all` missing, not last, or first and not the void line",
             15 => "a word that no listing has, or columns of another",
+            16 => "a byte count that is not a multiple of 12",
+            17 => "a record of an unknown kind",
+            18 => "a number that no record of its kind has",
             _ => "unknown stop",
         };
         write!(f, "stop {} at {}: {meaning}", self.number, self.place)
@@ -305,4 +308,22 @@ pub fn load(listing: &[u8]) -> Result<Loaded, Stop> {
     })?;
     words.truncate(count as usize);
     Ok(Loaded { words, total })
+}
+
+/// Puts the words, in fixed k = 15, of the ratios that a scoring package exported into a vector with a place
+/// for each record; stops 16, 3, then 17 and 18 with the index of the first bad record, from 0.
+///
+/// A record has 12 bytes ([`raw::RECORD_BYTES`]): a 32-bit kind, then two `f32`, all lowest byte first. Kind
+/// 1 has seconds of inspiration and of the whole breath, both from 2^-10 to below 2^10, the first no larger
+/// than the second. Kind 2 has the ratio itself, from 2^-10 to 1, and an `f32` whose bits are all 0, which
+/// -0.0 isn't. Each ratio is formed exactly, then rounded as [`round`] does it.
+pub fn timings(records: &[u8], words: &mut [u64]) -> Result<(), Stop> {
+    Stop::check(unsafe {
+        raw::slash_timings(
+            records.as_ptr(),
+            records.len(),
+            words.as_mut_ptr(),
+            words.len(),
+        )
+    })
 }

@@ -14,6 +14,13 @@ pub const LISTING_BYTES: usize = 2_162_719;
 /// The most breaths of a listing: lists of so many places are never too short for it.
 pub const MOST_BREATHS: usize = 65_536;
 
+/// The bytes of one record that the scoring package exports.
+pub const RECORD_BYTES: usize = 12;
+
+/// The kinds of its records.
+pub const RECORD_TIMINGS: u32 = 1;
+pub const RECORD_RATIO: u32 = 2;
+
 extern "C" {
     pub fn slash_round(kind: u64, k: u64, n: u64, d: u64, word: *mut u64) -> u64;
     pub fn slash_binary(kind: u64, k: u64, code: u64, left: u64, right: u64, word: *mut u64)
@@ -100,5 +107,11 @@ extern "C" {
         words_length: usize,
         count: *mut u64,
         total: *mut u64,
+    ) -> u64;
+    pub fn slash_timings(
+        records: *const u8,
+        records_length: usize,
+        words: *mut u64,
+        words_length: usize,
     ) -> u64;
 }

@@ -2,6 +2,7 @@
 
 use slash::{raw, Binary, Format, Loaded, Stop, Unary};
 use std::cmp::Ordering;
+use std::f32::consts::{E, PI};
 
 const FIXED_3: Format = Format::fixed(3);
 
@@ -415,4 +416,214 @@ fn a_refused_listing_stops_at_its_line_and_leaves_what_is_lent() {
     refused(15, 3, &changed("-\t-", "0/1\t0.0"));
     // The first bad line stops, whatever stands behind it.
     refused(15, 2, &changed("40.0\n3\t", "40.1\nx\t"));
+}
+
+/// A record of the scoring package: a kind, and the bits of two numbers.
+type Record = [u32; 3];
+
+/// A record of kind 1, from its seconds.
+fn timed(inspiration: f32, whole: f32) -> Record {
+    [1, inspiration.to_bits(), whole.to_bits()]
+}
+
+/// A record of kind 2.
+fn rated(ratio: f32) -> Record {
+    [2, ratio.to_bits(), 0]
+}
+
+/// The records' bytes.
+fn exported(records: &[Record]) -> Vec<u8> {
+    let fields = records.iter().flatten();
+    fields.flat_map(|field| field.to_le_bytes()).collect()
+}
+
+/// Bits of numbers: 2^-10, the last below 2^10, and 1, each with its neighbours.
+const LEAST: u32 = 0x3a80_0000;
+const BELOW_LEAST: u32 = LEAST - 1;
+const GREATEST: u32 = 0x447f_ffff;
+const ABOVE_GREATEST: u32 = GREATEST + 1;
+const ONE: u32 = 0x3f80_0000;
+const BELOW_ONE: u32 = ONE - 1;
+const ABOVE_ONE: u32 = ONE + 1;
+
+#[test]
+fn a_record_has_its_lowest_bytes_first() {
+    // 1.5 s of 4 s, then the ratio 0.375.
+    let records = [
+        [1, 0, 0, 0, 0, 0, 0xc0, 0x3f, 0, 0, 0x80, 0x40],
+        [2, 0, 0, 0, 0, 0, 0xc0, 0x3e, 0, 0, 0, 0],
+    ];
+    assert_eq!(records.concat(), exported(&[timed(1.5, 4.0), rated(0.375)]));
+    let mut words = [7, 8];
+    assert_eq!(slash::timings(&records.concat(), &mut words), Ok(()));
+    assert_eq!(words, [0x0003_0008, 0x0003_0008]);
+}
+
+#[test]
+fn a_record_gives_the_word_of_its_ratio() {
+    // A record; numerator, denominator and mark of its word.
+    let expected = [
+        (timed(1.5, 4.0), 3, 8, 0),
+        (rated(0.375), 3, 8, 0),
+        // The paper's breath, at 1024 ticks a second, then at 1000, where the floats are a little off.
+        (timed(277.0 / 1024.0, 642.0 / 1024.0), 277, 642, 0),
+        (timed(0.277, 0.642), 277, 642, 1),
+        // The first number equal to the second.
+        (timed(4.0, 4.0), 1, 1, 0),
+        (timed(0.1, 0.1), 1, 1, 0),
+        ([1, LEAST, LEAST], 1, 1, 0),
+        ([1, GREATEST, GREATEST], 1, 1, 0),
+        ([2, ONE, 0], 1, 1, 0),
+        // 0.1 is 13421773/2^27, whose convergents are 0/1, 1/9, 1/10, 6710886/67108859 and itself.
+        (rated(0.1), 1, 10, 1),
+        (rated(0.3), 3, 10, 1),
+        (timed(0.1, 0.3), 1, 3, 1),
+        (timed(1.6, 4.0), 2, 5, 1),
+        (timed(1.7, 4.3), 17, 43, 1),
+        (timed(E, PI), 24697, 28543, 1),
+        // The largest parts that the word has, and past them.
+        (timed(1.0 / 1024.0, 32767.0 / 1024.0), 1, 32767, 0),
+        (timed(1.0 / 1024.0, 32768.0 / 1024.0), 0, 1, 1),
+        (timed(32766.0 / 1024.0, 32767.0 / 1024.0), 32766, 32767, 0),
+        (timed(32767.0 / 1024.0, 32768.0 / 1024.0), 1, 1, 1),
+        // The ends of the ranges.
+        ([1, LEAST, GREATEST], 0, 1, 1),
+        ([1, GREATEST - 1, GREATEST], 1, 1, 1),
+        ([2, LEAST, 0], 1, 1024, 0),
+        ([2, BELOW_ONE, 0], 1, 1, 1),
+    ];
+    let records: Vec<Record> = expected.iter().map(|case| case.0).collect();
+    let mut words = vec![7; records.len()];
+    assert_eq!(slash::timings(&exported(&records), &mut words), Ok(()));
+    for ((record, r, s, mark), word) in expected.into_iter().zip(words) {
+        assert_eq!(word, (r << 16) + (mark << 15) + s, "{record:x?}");
+    }
+}
+
+/// 2^33 times a number from 2^-10 on, a whole one, by its bits.
+fn scaled(bits: u32) -> u64 {
+    u64::from(bits & 0x7f_ffff | 0x80_0000) << ((bits >> 23) - 117)
+}
+
+#[test]
+fn no_word_misses_a_ratio_by_less() {
+    // Beside a few, records drawn from all that are good.
+    let mut state = 1_u64;
+    let mut drawn = |least: u32, greatest: u32| {
+        state = state
+            .wrapping_mul(6_364_136_223_846_793_005)
+            .wrapping_add(1);
+        least + (state >> 33) as u32 % (greatest - least + 1)
+    };
+    let mut records = vec![[1, LEAST, GREATEST], [2, LEAST, 0], rated(0.1)];
+    for _ in 0..100 {
+        let whole = drawn(LEAST, GREATEST);
+        records.push([1, drawn(LEAST, whole), whole]);
+        records.push([2, drawn(LEAST, ONE), 0]);
+    }
+    let mut words = vec![0; records.len()];
+    assert_eq!(slash::timings(&exported(&records), &mut words), Ok(()));
+    for ([kind, first, second], word) in records.into_iter().zip(words) {
+        let n = scaled(first);
+        let d = scaled(if kind == 1 { second } else { ONE });
+        let miss = |r: u64, s: u64| (s * n).abs_diff(r * d);
+        let (r, s) = (word >> 16, word & 0x7fff);
+        assert!(r <= 0x7fff, "sign 0");
+        assert_eq!(word >> 15 & 1, u64::from(miss(r, s) != 0));
+        for denominator in 1..=0x7fff {
+            // Any other numerator misses by more than these two.
+            let below = denominator * n / d;
+            for numerator in [below, below + 1] {
+                let pair = (miss(numerator, denominator), numerator + denominator);
+                assert!((numerator, denominator) == (r, s) || pair > (miss(r, s), r + s));
+            }
+        }
+    }
+}
+
+/// Asserts that the bytes, with so many places lent, are refused, and that the places stay as they were.
+fn assert_refused(bytes: &[u8], places: usize, number: u8, place: u64) {
+    let mut words = vec![7; places];
+    let stop = Err(Stop { number, place });
+    assert_eq!(slash::timings(bytes, &mut words), stop, "{bytes:x?}");
+    assert!(words.iter().all(|&word| word == 7));
+}
+
+#[test]
+fn a_refused_record_stops_at_its_index_and_leaves_what_is_lent() {
+    let refused = |number, place, records: &[Record]| {
+        assert_refused(&exported(records), records.len(), number, place);
+    };
+    let good = timed(1.5, 4.0);
+    for kind in [0, 3, 0x0101, 0x0100_0000, 0x8000_0001, u32::MAX] {
+        refused(17, 0, &[[kind, good[1], good[2]]]);
+        // Of an unknown kind, the numbers aren't looked at.
+        refused(17, 1, &[good, [kind, u32::MAX, u32::MAX], good]);
+    }
+    // Numbers that are good nowhere.
+    let never = [
+        // Zeros and subnormal ones; positive ones below 2^-10 and from 2^10 on.
+        [0, 0x8000_0000, 0x0000_0001, 0x007f_ffff],
+        [0x0080_0000, BELOW_LEAST, ABOVE_GREATEST, 0x7f7f_ffff],
+        // Negative ones, infinities and NaNs.
+        [0x8000_0001, 0xbf00_0000, 0xbf80_0000, 0xff7f_ffff],
+        [0x7f80_0000, 0xff80_0000, 0x7f80_0001, u32::MAX],
+    ];
+    for bits in never.concat() {
+        refused(18, 2, &[good, good, [1, bits, ONE]]);
+        refused(18, 2, &[good, good, [1, LEAST, bits]]);
+        refused(18, 0, &[[1, bits, bits], good]);
+        refused(18, 1, &[good, [2, bits, 0], good]);
+    }
+    refused(18, 0, &[[2, ABOVE_ONE, 0]]);
+    // Longer in than the whole breath, by as little as can be.
+    refused(18, 1, &[good, [1, ABOVE_ONE, ONE]]);
+    refused(18, 0, &[[1, GREATEST, GREATEST - 1]]);
+    // A ratio with any bit in its second number, that of -0.0 too.
+    for bit in 0..32 {
+        refused(18, 0, &[[2, ONE, 1 << bit]]);
+    }
+    // Good numbers of the other kind.
+    refused(18, 1, &[good, [1, ONE, 0]]);
+    refused(18, 1, &[good, [2, LEAST, ONE]]);
+}
+
+#[test]
+fn the_lowest_bad_record_stops() {
+    let refused = |number, place, records: &[Record]| {
+        assert_refused(&exported(records), records.len(), number, place);
+    };
+    let (good, unknown, bad) = (rated(0.5), [3, ONE, ONE], [1, ONE, LEAST]);
+    refused(17, 1, &[good, unknown, bad, unknown]);
+    refused(18, 1, &[good, bad, unknown, bad]);
+    refused(18, 0, &[bad, good, unknown]);
+    let mut many = [good; 1000];
+    many[999] = bad;
+    refused(18, 999, &many);
+    many[300] = unknown;
+    refused(17, 300, &many);
+}
+
+#[test]
+fn lengths_are_checked_before_records() {
+    // Records of an unknown kind.
+    let bytes = [0xff; 60];
+    for length in 0..=bytes.len() {
+        for places in 0..=6 {
+            let refused = |number| assert_refused(&bytes[..length], places, number, 0);
+            match length % 12 {
+                0 if places != length / 12 => refused(3),
+                0 if places != 0 => refused(17),
+                0 => assert_eq!(slash::timings(&[], &mut []), Ok(())),
+                _ => refused(16),
+            }
+        }
+    }
+    // Good ones, with a byte or a place too many or too few.
+    let records = exported(&[rated(0.5), rated(0.25), rated(0.75)]);
+    assert_refused(&records[..23], 2, 16, 0);
+    assert_refused(&records[..25], 2, 16, 0);
+    assert_refused(&records[..24], 1, 3, 0);
+    assert_refused(&records[..24], 3, 3, 0);
+    assert_refused(&records[..24], 24, 3, 0);
 }

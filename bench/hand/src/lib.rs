@@ -6,6 +6,7 @@ mod line;
 pub mod load;
 pub mod night;
 pub mod tables;
+pub mod timings;
 pub mod twisting;
 
 pub type Answer = Result<u64, u64>;
@@ -219,6 +220,30 @@ fn cut(form: Form, mut n: u64, mut d: u64) -> (u64, u64, bool) {
         (r0, s0, r1, s1) = (r1, s1, r, s);
     }
     (r1, s1, false)
+}
+
+/// The same of n/d from 0 to 1, n not 0, into fixed k = 15: the pair, its denominator in the upper 16 bits, and
+/// whether it was changed. The first convergent is 0, so that d is divided by n to begin with; the divisions
+/// behind it take 32 bits. Both parts of a convergent are in one number: the denominator isn't the smaller
+/// one, so that it tells whether both are held.
+#[inline]
+fn cut_proportion(n: u32, d: u64) -> (u32, bool) {
+    let quotient = d / u64::from(n);
+    if quotient > 32767 {
+        return (1 << 16, true);
+    }
+    let (mut a, mut b) = (n, (d - quotient * u64::from(n)) as u32);
+    let (mut before, mut last) = (1 << 16, quotient << 16 | 1);
+    while b != 0 {
+        let quotient = a / b;
+        let next = u64::from(quotient) * last + before;
+        if next >> 31 != 0 {
+            return (last as u32, true);
+        }
+        (a, b) = (b, a - quotient * b);
+        (before, last) = (last, next);
+    }
+    (last as u32, false)
 }
 
 // The functions on words.

@@ -3,7 +3,7 @@
 //! A bad line stops the call that begins with it, or with the recording, and nothing is stored.
 
 use crate::line::{in_window, Listing, MOST_BREATHS, MOST_BYTES};
-use crate::{cut, form, put, Answer, Form};
+use crate::{cut, cut_proportion, form, put, Answer, Form};
 
 /// The bytes of the longest listing.
 pub const LISTING_BYTES: usize = 2_162_719;
@@ -108,13 +108,25 @@ impl Night {
     }
 }
 
+/// The pair of a ratio that isn't void: a breath's has numbers of 32 bits, and isn't above 1.
+#[inline]
+fn rounded(stored: Form, inward: u64, whole: u64) -> (u64, u64, bool) {
+    match u32::try_from(inward) {
+        Ok(n) if 0 < n && inward <= whole => {
+            let (pair, changed) = cut_proportion(n, whole);
+            ((pair & 0xffff).into(), (pair >> 16).into(), changed)
+        }
+        _ => cut(stored, inward, whole),
+    }
+}
+
 /// Lists the columns of a ratio, rounded; those of a void one where it is void.
 #[inline]
 fn columns(listing: &mut Listing, stored: Form, inward: u64, whole: u64) {
     if whole == 0 || inward > whole {
         return listing.void();
     }
-    let (n, d, changed) = cut(stored, inward, whole);
+    let (n, d, changed) = rounded(stored, inward, whole);
     let word = put(stored, false, changed, n, d);
     listing.columns(word as u32, n as u32, d as u32);
 }

@@ -4,23 +4,24 @@
 -- fraction from 0 to 1. `span-is`, `span-leads`: a difference modulo 2^32 leads from the first tick mark to the second,
 -- and any number below 2^32 that does is it. `good-breath`: a breath that isn't void has a whole, and an in that doesn't exceed it.
 use mathlib.Core.Path.{_≡_, refl, sym, ap, _∙_, subst}
-use mathlib.Core.Bool.{Bool, true, false, _||_, true≢false}
+use mathlib.Core.Bool.{Bool, true, false, not, _&&_, _||_, true≢false}
 use mathlib.Core.List.{List, [], _∷_}
 use mathlib.Core.Logic.{⊎-elim}
 use Prim.Native.Nat.{ℕ, zero, suc, _+_, _*_, _%_, _^_, _≤_, _<_}
 use native.Mathlib.Omega.{arith}
 use native.Mathlib.Nat.{mul-le-mul-left, mul-le-mul-right, mod-lt}
 use native.Mathlib.Decide.{decLe, ℕ-discrete}
-use lib.Dec.{eqb, ltb}
-use borrow.Author.Tests.{eqb-true, eqb-false, ltb-false, eq-eqb, ne-eqb}
+use lib.Dec.{eqb, ltb, leb}
+use borrow.Author.Tests.{eqb-true, eqb-false, ltb-false, leb-true, not-true, eq-eqb, ne-eqb}
+use Rattle.convergents.specs.Choice.{if_then_else_}
 use Rattle.convergents.specs.Pairs.{Pair, pair, differs}
 use Rattle.convergents.specs.Rounding.{Limit, held, round}
 use Rattle.convergents.specs.Best.{Best}
 use Rattle.convergents.proofs.Optimal.{held-is, zero-held}
 use Rattle.convergents.proofs.BestLaws.{round-best}
-use Rattle.slash.specs.Answers.{Outcome, done, writtenOutcome, WhenDone}
+use Rattle.slash.specs.Answers.{Outcome, stop, done, writtenOutcome, WhenDone}
 use Rattle.slash.specs.Bits.{bits, bit, wordOfFields}
-use Rattle.slash.specs.Formats.{kFits, known, holds}
+use Rattle.slash.specs.Formats.{holds}
 use Rattle.slash.specs.Reading.{fixedValue, fixedNumber, numberOf}
 use Rattle.slash.specs.Writing.{fixedWord, pairWord, wordFor, isOverZero, writeNumber, exactRatio}
 use Rattle.slash.specs.Numbers.{isNan, pairOf}
@@ -30,19 +31,20 @@ use Rattle.slash.specs.declared.answer.Written.the-variants as Written
 use Rattle.slash.specs.declared.answer.Stop.{Stop}
 use Rattle.slash.specs.declared.format.Format.{Format}
 use Rattle.slash.specs.declared.number.Value.{Value}
-use Rattle.slash.proofs.AnswerLaws.{done-inj, no-stop, some-not, if-case}
+use Rattle.slash.proofs.AnswerLaws.{done-inj, no-stop, and-parts, some-not, if-case}
 use Rattle.slash.proofs.BitLaws.{bit-lt, bit-false}
 use Rattle.slash.proofs.FormatLaws.{format-limit, fixed-parts}
-use Rattle.slash.proofs.WritingLaws.{write-done, word-best}
+use Rattle.slash.proofs.WritingLaws.{write-done, write-over-zero, word-best}
 use Rattle.slash.proofs.WordLaws.{word-rounded, word-mark}
 use Rattle.breaths.specs.Breaths.{span, breathOf, isVoid, breathRatio, breathWord, BestBreaths}
-use Rattle.breaths.specs.Ratios.{ratioFormat, ratioWord, wordOf, ratioOf, fractionOf, BestRatio}
+use Rattle.breaths.specs.Ratios.{ratioFormat, ratioWord, partsRatio, wordOf, ratioOf, fractionOf, BestRatio}
 use Rattle.breaths.specs.Sums.{noneLeft, nightRatio, nightWord}
 use Rattle.breaths.specs.Steps.{Proportion, PrintableRatio, Proper}
 use Rattle.breaths.specs.declared.breath.Breath.{Breath}
 use Rattle.breaths.specs.declared.sums.Sums.{Sums}
 use Rattle.breaths.specs.declared.ratio.Ratio.{Ratio}
 use Rattle.breaths.specs.declared.ratio.Ratio.the-variants.{Void, Word}
+use Rattle.breaths.proofs.ProportionLaws.{known-format}
 
 -- a difference modulo 2^32 is the one number that leads from the first tick mark to the second
 pub span-is : (from to r : ℕ) → from < 2 ^ 32 → r < 2 ^ 32 → (r + from) % 2 ^ 32 ≡ to → r ≡ span from to
@@ -95,10 +97,6 @@ module _ (limit : ℕ → ℕ → Bool) (lim : Limit limit) (N D : ℕ) (pos : 1
 
 -- ---- the word of a ratio
 
-known-format : known ratioFormat ≡ true
-unfolding known kFits
-known-format = refl
-
 module _ (N D : ℕ) (pos : 1 ≤ D) where
   not-over : isOverZero (exactRatio N D .value) ≡ false
   unfolding isOverZero
@@ -114,28 +112,17 @@ module _ (N D : ℕ) (pos : 1 ≤ D) where
   ratio-best = word-best ratioFormat known-format false (exactRatio N D .value) not-over
 
   -- demand 2, and the mark
-  ratio-rounded : fractionOf (ratioWord N D) ≡ round (holds ratioFormat) N D
+  pub ratio-rounded : fractionOf (ratioWord N D) ≡ round (holds ratioFormat) N D
   unfolding fractionOf ratioWord
   ratio-rounded = word-rounded ratioFormat known-format false (exactRatio N D .value) not-over
 
-  ratio-mark : numberOf ratioFormat (ratioWord N D) .approximate ≡ differs N D (fractionOf (ratioWord N D))
+  pub ratio-mark : numberOf ratioFormat (ratioWord N D) .approximate ≡ differs N D (fractionOf (ratioWord N D))
   unfolding fractionOf ratioWord isNan
   ratio-mark = word-mark ratioFormat known-format false (exactRatio N D .value) not-over
 
-  -- what `slash::round_word` answers
-  module _ (f : Format) (fe : f ≡ ratioFormat) (a : Written)
-      (w : (writtenOutcome a ≡ writeNumber f (exactRatio N D)) × WhenDone (writtenOutcome a) (λ v. BestForRatio f N D v)) where
-    answer : writtenOutcome a ≡ done (ratioWord N D)
-    answer = w .0 ∙ ap (λ (g : Format). writeNumber g (exactRatio N D)) fe ∙ sym ratio-written
-
-    pub rounded-done : (v : ℕ) → a ≡ Written.Done v → (Word v ≡ Word (ratioWord N D)) × BestRatio N D (Word v)
-    unfolding BestRatio
-    rounded-done v e =
-        let best : BestForRatio f N D v = subst (λ (o : Outcome ℕ). WhenDone o (λ u. BestForRatio f N D u)) (ap writtenOutcome e) (w .1) in
-        (ap Word (done-inj (sym (ap writtenOutcome e) ∙ answer)), subst (λ (g : Format). BestForRatio g N D v) fe best)
-
-    pub rounded-stop : (s : Stop) → a ≡ Written.Stopped s → ⊥
-    rounded-stop s e = no-stop (sym (ap writtenOutcome e) ∙ answer)
+  pub parts-some : partsRatio N D ≡ Word (ratioWord N D)
+  unfolding partsRatio
+  parts-some = rw (some-not D pos) refl
 
   -- its sign is 0, and 8 hexadecimal digits are all of it
   pub ratio-unsigned : ratioWord N D < 2 ^ 31
@@ -153,6 +140,48 @@ module _ (N D : ℕ) (pos : 1 ≤ D) where
       let b : Best (holds ratioFormat) N D x = ratio-best in
       let p = from-zero-to-one (holds ratioFormat) (format-limit ratioFormat known-format) N D pos l x b in
       record { unsigned = ratio-unsigned; some = p .0; proper = p .1 }
+
+-- the ratios that `Ratio::of_parts` takes a way of its own for, and its answer there
+module _ (n d : ℕ) where
+  pub short-parts : ((not (eqb n 0) && leb n d) && leb n 4294967295) ≡ true → (1 ≤ n) × (n ≤ d) × (n ≤ 4294967295)
+  short-parts e =
+      let t = and-parts _ _ e in
+      let u = and-parts _ _ (t .0) in
+      let z : n ≡ 0 → ⊥ = eqb-false n 0 (not-true _ (u .0)) in
+      (omega arith, leb-true _ _ (u .1), leb-true _ _ (t .1))
+
+  pub short-word : 1 ≤ d → (w : ℕ) → w ≡ ratioWord n d → (Word w ≡ partsRatio n d) × BestRatio n d (Word w)
+  unfolding BestRatio
+  short-word pos w e = (ap Word e ∙ sym (parts-some n d pos), subst (λ (v : ℕ). BestForRatio ratioFormat n d v) (sym e) (ratio-best n d pos))
+
+-- the answers of `Ratio::of_parts`, by what `slash::round_word` answers
+module _ (N D : ℕ) (f : Format) (fe : f ≡ ratioFormat) (a : Written)
+    (w : (writtenOutcome a ≡ writeNumber f (exactRatio N D)) × WhenDone (writtenOutcome a) (λ v. BestForRatio f N D v)) where
+  answer : writtenOutcome a ≡ writeNumber ratioFormat (exactRatio N D)
+  answer = w .0 ∙ ap (λ (g : Format). writeNumber g (exactRatio N D)) fe
+
+  over-zero : D ≡ 0 → stop 6 0 ≡ writeNumber ratioFormat (exactRatio N D)
+  unfolding isOverZero
+  over-zero z = write-over-zero ratioFormat _ known-format (eq-eqb D 0 z)
+
+  pub parts-done : (v : ℕ) → a ≡ Written.Done v → (Word v ≡ partsRatio N D) × BestRatio N D (Word v)
+  unfolding BestRatio
+  parts-done v e =
+      let made : done v ≡ writeNumber ratioFormat (exactRatio N D) = sym (ap writtenOutcome e) ∙ answer in
+      let best : BestForRatio f N D v = subst (λ (o : Outcome ℕ). WhenDone o (λ u. BestForRatio f N D u)) (ap writtenOutcome e) (w .1) in
+      (go made (ℕ-discrete D 0), subst (λ (g : Format). BestForRatio g N D v) fe best)
+    where
+      go : done v ≡ writeNumber ratioFormat (exactRatio N D) → Dec (D ≡ 0) → Word v ≡ partsRatio N D
+      go made (yes z) = absurd (no-stop (over-zero z ∙ sym made))
+      go made (no z) = let pos : 1 ≤ D = omega arith in ap Word (done-inj (made ∙ sym (ratio-written N D pos))) ∙ sym (parts-some N D pos)
+
+  pub parts-stop : (s : Stop) → a ≡ Written.Stopped s → (Void ≡ partsRatio N D) × BestRatio N D Void
+  unfolding partsRatio BestRatio
+  parts-stop s e = (go (ℕ-discrete D 0), tt)
+    where
+      go : Dec (D ≡ 0) → Void ≡ partsRatio N D
+      go (yes z) = rw (eq-eqb D 0 z) refl
+      go (no z) = let pos : 1 ≤ D = omega arith in absurd (no-stop (sym (ap writtenOutcome e) ∙ answer ∙ sym (ratio-written N D pos)))
 
 -- the parts of whatever word are small
 value-small : (s : Bool) (n d : ℕ) → n < 2 ^ 15 → d < 2 ^ 15 → (pairOf (fixedValue s n d) .numerator < 2 ^ 15) × (pairOf (fixedValue s n d) .denominator < 2 ^ 15)
@@ -237,10 +266,12 @@ module _ (b : Breath) where
   breath-void h = (rw h refl, (rw h refl, tt))
 
   pub breath-word : isVoid b ≡ false → (r : Ratio)
-      → (r ≡ Word (ratioWord (b .inspiration) (b .whole))) × BestRatio (b .inspiration) (b .whole) r
+      → (r ≡ partsRatio (b .inspiration) (b .whole)) × BestRatio (b .inspiration) (b .whole) r
       → Promised (breathRatio b) (breathWord b) (b .inspiration) (b .whole) r
   unfolding breathRatio breathWord wordOf
-  breath-word h r w = (w .0 ∙ rw h refl, (ap wordOf (w .0) ∙ rw h refl, w .1))
+  breath-word h r w =
+      let e : r ≡ Word (ratioWord (b .inspiration) (b .whole)) = w .0 ∙ parts-some _ _ (good-breath h .0) in
+      (e ∙ rw h refl, (ap wordOf e ∙ rw h refl, w .1))
 
   -- Demand 3, of every breath.
   pub breath-best : BestRatio (b .inspiration) (b .whole) (breathRatio b)
@@ -265,15 +296,15 @@ module _ (b : Breath) where
 -- ---- a night
 
 module _ (s : Sums) where
-  pub night-void : s .whole ≡ 0 → Promised (nightRatio s) (nightWord s) (s .inspiration) (s .whole) Void
-  unfolding nightRatio nightWord noneLeft wordOf BestRatio
-  night-void h = (rw (eq-eqb _ _ h) refl, (rw (eq-eqb _ _ h) refl, tt))
-
-  pub night-word : (s .whole ≡ 0 → ⊥) → (r : Ratio)
-      → (r ≡ Word (ratioWord (s .inspiration) (s .whole))) × BestRatio (s .inspiration) (s .whole) r
+  pub night-parts : (r : Ratio)
+      → (r ≡ partsRatio (s .inspiration) (s .whole)) × BestRatio (s .inspiration) (s .whole) r
       → Promised (nightRatio s) (nightWord s) (s .inspiration) (s .whole) r
-  unfolding nightRatio nightWord noneLeft wordOf
-  night-word h r w = (w .0 ∙ rw (ne-eqb _ _ h) refl, (ap wordOf (w .0) ∙ rw (ne-eqb _ _ h) refl, w .1))
+  unfolding nightRatio nightWord noneLeft partsRatio wordOf
+  night-parts r w = (w .0, (ap wordOf (w .0) ∙ go (eqb (s .whole) 0), w .1))
+    where
+      go : (t : Bool) → wordOf (if t then Void else Word (ratioWord (s .inspiration) (s .whole))) ≡ (if t then 0 else ratioWord (s .inspiration) (s .whole))
+      go true = refl
+      go false = refl
 
   -- a breath is left
   some-left : noneLeft s ≡ false → 1 ≤ s .whole

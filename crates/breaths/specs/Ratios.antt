@@ -20,6 +20,10 @@ ratioFormat = record { kind = 1; k = 15 }
 unfoldable pub ratioWord : (N D : ℕ) → ℕ
 ratioWord N D = wordFor ratioFormat false (exactRatio N D .value)
 
+-- The ratio N/D: its word, and none where D is 0.
+unfoldable pub partsRatio : (N D : ℕ) → Ratio
+partsRatio N D = if eqb D 0 then Void else Word (ratioWord N D)
+
 -- The word that a ratio is stored as: a void one has word 0.
 unfoldable pub wordOf : Ratio → ℕ
 wordOf Void = 0

@@ -3,7 +3,6 @@ ghost use mathlib.Core.Path.{_≡_};
 ghost use Rattle.breaths.specs.Breaths.{breathOf, isVoid, breathRatio, breathWord};
 ghost use Rattle.breaths.specs.Ratios.{wordOf, BestRatio};
 use crate::ratio::Ratio;
-use crate::ratio::rounded;
 
 // Breathing in, and the whole breath, in ticks of a clock that is 32 bits wide.
 pub struct Breath {
@@ -37,7 +36,7 @@ impl Breath {
         if self.is_void() {
             Ratio::Void
         } else {
-            rounded(self.inspiration as u64, self.whole as u64)
+            Ratio::of_parts(self.inspiration as u64, self.whole as u64)
         }
     }
 }

@@ -1,5 +1,6 @@
 // A breath's durations, a night's sums of them, and their ratios as slash words.
 mod breath;
+mod proportion;
 mod ratio;
 mod sums;
 

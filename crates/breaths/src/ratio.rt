@@ -1,7 +1,7 @@
 // A ratio as a slash word of fixed k = 15.
 ghost use mathlib.Core.Path.{_≡_};
-ghost use Prim.Native.Nat.{_≤_};
-ghost use Rattle.breaths.specs.Ratios.{ratioFormat, ratioWord, wordOf, ratioOf, BestRatio};
+ghost use Rattle.breaths.specs.Ratios.{ratioFormat, wordOf, ratioOf, partsRatio, BestRatio};
+use crate::proportion::proportion_word;
 use slash::Format;
 use slash::Written;
 
@@ -10,6 +10,9 @@ pub enum Ratio {
     Void,
     Word(u64),
 }
+
+// The largest number of 32 bits.
+const MOST: u64 = 4294967295;
 
 impl Ratio {
     // The format of every ratio's word.
@@ -38,16 +41,19 @@ impl Ratio {
     {
         if w == 0 { Ratio::Void } else { Ratio::Word(w) }
     }
-}
 
-// n/d, rounded. The format is known and d isn't 0, so writing doesn't stop.
-pub(crate) fn rounded(n: u64, d: u64) -> Ratio
-    requires { ⌜ 1 ≤ d ⌝ }
-    ensures written { λ r. ⌜ r ≡ Ratio.Word (ratioWord n d) ⌝ }
-    ensures best { λ r. ⌜ BestRatio n d r ⌝ }
-{
-    match slash::round_word(Ratio::format(), n, d) {
-        Written::Done(w) => Ratio::Word(w),
-        Written::Stopped(_) => Ratio::Void,
+    // n/d, rounded. Those from 0 to 1 that have no large n, as every breath's, go by a way of their own.
+    // The format is known, so that only d = 0 stops the writing: there is no ratio then.
+    pub fn of_parts(n: u64, d: u64) -> Ratio
+        ensures defined { λ r. ⌜ r ≡ partsRatio n d ⌝ }
+        ensures best { λ r. ⌜ BestRatio n d r ⌝ }
+    {
+        if (n != 0) & (n <= d) & (n <= MOST) {
+            return Ratio::Word(proportion_word(n as u32, d));
+        }
+        match slash::round_word(Ratio::format(), n, d) {
+            Written::Done(w) => Ratio::Word(w),
+            Written::Stopped(_) => Ratio::Void,
+        }
     }
 }

@@ -4,7 +4,6 @@ ghost use Rattle.breaths.specs.Ratios.{wordOf, BestRatio};
 ghost use Rattle.breaths.specs.Sums.{addedOutcome, oneMore, nightRatio, nightWord};
 use crate::breath::Breath;
 use crate::ratio::Ratio;
-use crate::ratio::rounded;
 
 // Breathing in, and whole breaths, summed over the breaths of a night that aren't void.
 pub struct Sums {
@@ -49,10 +48,6 @@ impl Sums {
         ensures word { λ r. ⌜ wordOf r ≡ nightWord self ⌝ }
         ensures best { λ r. ⌜ BestRatio (self .inspiration) (self .whole) r ⌝ }
     {
-        if self.whole == 0 {
-            Ratio::Void
-        } else {
-            rounded(self.inspiration, self.whole)
-        }
+        Ratio::of_parts(self.inspiration, self.whole)
     }
 }

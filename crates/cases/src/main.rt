@@ -3,6 +3,7 @@
 // must be.
 mod operations;
 mod places;
+mod records;
 mod requests;
 mod show;
 mod single;
@@ -72,7 +73,7 @@ fn fed(line: Line, all: &mut [u64], b: u8) -> Line {
 fn main() {
     let mut byte = [0u8; 1];
     let mut line = empty();
-    let mut all = [0u64; 64];
+    let mut all = [0u64; 256];
     // At most so many bytes, since a program has to end.
     let mut left: u64 = 1000000000000;
     while left > 0 {

@@ -12,7 +12,7 @@ fn show_stored(checked: Completion, stored: Completion, words: &[u64]) {
     show_words(words);
 }
 
-fn show_words(words: &[u64]) {
+pub(crate) fn show_words(words: &[u64]) {
     let mut i = 0;
     while i < words.len() {
         show::text(b" ");
@@ -21,7 +21,7 @@ fn show_words(words: &[u64]) {
     }
 }
 
-fn copy(from: &[u64], to: &mut [u64]) {
+pub(crate) fn copy(from: &[u64], to: &mut [u64]) {
     let mut i = 0;
     while i < to.len() {
         if from.len() <= i {
@@ -32,7 +32,7 @@ fn copy(from: &[u64], to: &mut [u64]) {
     }
 }
 
-fn at_most_16(length: u64) -> usize
+pub(crate) fn at_most_16(length: u64) -> usize
     ensures { λ r. ⌜ r ≤ 16 ⌝ }
 {
     if length <= 16 { length as usize } else { 16 }

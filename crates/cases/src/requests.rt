@@ -2,6 +2,7 @@
 use crate::Line;
 use crate::operations;
 use crate::places;
+use crate::records;
 use crate::show;
 use crate::single;
 use crate::words;
@@ -41,7 +42,7 @@ fn run_words(line: Line) {
     }
 }
 
-// A request on vectors, whose words are in the list of all numbers.
+// A request on vectors, whose words, or bytes, are in the list of all numbers.
 fn run_vectors(line: Line, all: &[u64]) {
     let a = line.numbers;
     let letter = line.letter;
@@ -58,13 +59,14 @@ fn run_vectors(line: Line, all: &[u64]) {
         b'y' => places::unary_each(f, a[3], a[4], a[5], all),
         b'z' => places::convert_each(f, to, a[5], a[6], all),
         b'e' => places::rearranged_each(f, a[3], a[4], a[5], all),
+        b'i' => records::imported(a[1], a[2], all),
         _ => show::text(b"unknown"),
     }
 }
 
 // Runs the request of a line and writes the answer's line.
 pub(crate) fn run(line: Line, all: &[u64]) {
-    if line.letter == b'e' || b'x' <= line.letter {
+    if line.letter == b'e' || line.letter == b'i' || b'x' <= line.letter {
         run_vectors(line, all);
     } else {
         run_words(line);

@@ -5,4 +5,5 @@ mod listings;
 mod nights;
 mod places;
 mod status;
+mod timings;
 mod words;

@@ -3,6 +3,7 @@
 use differential::load;
 use differential::night;
 use differential::paper::{self, Answer, Format, Number, Size, Stop};
+use differential::timings;
 use std::cmp::Ordering;
 use std::io::{self, BufWriter, Read, Write};
 
@@ -47,6 +48,10 @@ fn answer(letter: &str, numbers: &[u64]) -> Answer<String> {
             Ok(each(source, |word| {
                 hexadecimal(paper::convert(source, target, word))
             }))
+        }
+        ("i", &[length, _, ref rest @ ..]) => {
+            let (bytes, out) = rest.split_at(length as usize);
+            Ok(imported_answer(bytes, out))
         }
         ("q", &[kind, k, length, word]) => Ok(quotients_answer(kind, k, length, word)),
         ("x", &[kind, k, code, left, right, _, ref words @ ..]) => {
@@ -231,10 +236,21 @@ fn vector_answer(
 ) -> String {
     let mut out = lent.to_vec();
     let told = [told_text(checked), told_text(operation(&mut out))];
-    joined(
-        told.into_iter()
-            .chain(out.iter().map(|word| format!("{word:x}"))),
-    )
+    lent_text(&told, &out)
+}
+
+/// What importing records tells, and the words behind it.
+fn imported_answer(bytes: &[u64], lent: &[u64]) -> String {
+    let byte = |&number: &u64| u8::try_from(number).expect("a byte");
+    let records: Vec<u8> = bytes.iter().map(byte).collect();
+    let mut out = lent.to_vec();
+    let told = told_text(timings::timings(&records, &mut out));
+    lent_text(&[told], &out)
+}
+
+fn lent_text(told: &[String], out: &[u64]) -> String {
+    let words = out.iter().map(|word| format!("{word:x}"));
+    joined(told.iter().cloned().chain(words))
 }
 
 // Recipes.

@@ -6,7 +6,7 @@ use Rattle.cases.proofs.main.Statement.{statement}
 use Rattle.cases.proofs.main.Tie as tie
 
 abbrev Inv-loop : tie.InvT-loop
-Inv-loop byte₀ line₀ all₀ left₀ byte line all left = (1 ≡ length byte) × (64 ≡ length all)
+Inv-loop byte₀ line₀ all₀ left₀ byte line all left = (1 ≡ length byte) × (256 ≡ length all)
 
 abbrev μ-loop : tie.MeasureT-loop
 μ-loop byte₀ line₀ all₀ left₀ byte line all left = left

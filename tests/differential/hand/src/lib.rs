@@ -7,6 +7,7 @@
 //! As for the archive: pointers are aligned and not null, and have the lengths that are given.
 #![allow(clippy::missing_safety_doc)]
 
+pub mod by_record;
 pub mod tables;
 
 use std::slice::{from_raw_parts, from_raw_parts_mut};
@@ -182,6 +183,18 @@ pub unsafe extern "C" fn slash_untwist_each(
     let operand = from_raw_parts(operand, operand_length);
     let out = from_raw_parts_mut(out, out_length);
     status(hand::twisting::untwist_each(kind, k, operand, out))
+}
+
+#[cfg_attr(not(feature = "unnamed"), no_mangle)]
+pub unsafe extern "C" fn slash_timings(
+    records: *const u8,
+    records_length: usize,
+    words: *mut u64,
+    words_length: usize,
+) -> u64 {
+    let records = from_raw_parts(records, records_length);
+    let words = from_raw_parts_mut(words, words_length);
+    status(hand::timings::timings(records, words))
 }
 
 #[cfg_attr(not(feature = "unnamed"), no_mangle)]

@@ -4,6 +4,7 @@ use crate::counts::Counts;
 use differential::load;
 use differential::night;
 use differential::paper::{self, Answer, Stop};
+use differential::timings;
 use slash::raw;
 use std::fmt::Debug;
 
@@ -285,6 +286,18 @@ impl Harness {
                 raw::slash_untwist_each(kind, k, operand.as_ptr(), operand.len(), out, count)
             },
             |out| paper::untwist_each(form, operand, out),
+        );
+    }
+
+    pub fn timings(&mut self, records: &[u8], length: usize) {
+        self.hold_each(
+            "slash_timings",
+            (records, length),
+            length,
+            |words, count| unsafe {
+                raw::slash_timings(records.as_ptr(), records.len(), words, count)
+            },
+            |words| timings::timings(records, words),
         );
     }
 

@@ -9,6 +9,7 @@ mod calls;
 mod counts;
 mod inputs;
 mod listings;
+mod records;
 
 use calls::Harness;
 use counts::Part;
@@ -49,6 +50,7 @@ fn exhaustive_part(harness: &mut Harness, source: &mut Source) {
     every_short_recording(harness);
     long_recordings(harness, source);
     listings::every_listing(harness, source);
+    records::every_record(harness);
 }
 
 fn numbers_of(form: Format) -> (u64, u64) {
@@ -212,7 +214,7 @@ fn long_recordings(harness: &mut Harness, source: &mut Source) {
 /// One call, of any function, of a good or a strange format.
 fn random_call(harness: &mut Harness, source: &mut Source) {
     let form = source.format();
-    match source.below(23) {
+    match source.below(24) {
         0..=5 => {
             let (left, right) = source.operands(form);
             harness.binary(form, source.code(4), left, right);
@@ -236,6 +238,7 @@ fn random_call(harness: &mut Harness, source: &mut Source) {
         17 | 18 => random_vectors(harness, source, form),
         19 => listings::random_listing(harness, source),
         20 | 21 => random_twists(harness, source),
+        22 => records::random_records(harness, source),
         _ => {
             let lines = source.below(9) as usize;
             let mut recording = source.recording(lines);

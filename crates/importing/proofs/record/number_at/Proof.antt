@@ -1,0 +1,46 @@
+-- `importing::record::number_at` meets its contract. Assumes nothing.
+use Rattle.importing.proofs.RecordLaws.{number-is}
+use borrow.Author.Needs.{needs}
+use Rattle.importing.proofs.record.number_at.Statement.{statement}
+use Rattle.importing.proofs.record.number_at.Tie as tie
+
+shared-slice-read-number-of : tie.Need-shared-slice-read-number-of
+shared-slice-read-number-of c = search needs
+
+add-number-of : tie.Need-add-number-of
+add-number-of c = search needs
+
+shared-slice-read-number-of-2 : tie.Need-shared-slice-read-number-of-2
+shared-slice-read-number-of-2 c = search needs
+
+add-number-of-2 : tie.Need-add-number-of-2
+add-number-of-2 c = search needs
+
+shared-slice-read-number-of-3 : tie.Need-shared-slice-read-number-of-3
+shared-slice-read-number-of-3 c = search needs
+
+add-number-of-3 : tie.Need-add-number-of-3
+add-number-of-3 c = search needs
+
+shared-slice-read-number-of-4 : tie.Need-shared-slice-read-number-of-4
+shared-slice-read-number-of-4 c = search needs
+
+number-of-requires : tie.Need-number-of-requires
+number-of-requires c κs = search needs
+
+returns : tie.Need-returns
+returns c = number-is _ _ _ (c .before .before .before .before .before .before .pre) (c .number-of .ensures)
+
+pub number-at-spec : {M : Type 1} → statement M
+number-at-spec =
+    tie.close
+    (tie.spec
+    shared-slice-read-number-of
+    add-number-of
+    shared-slice-read-number-of-2
+    add-number-of-2
+    shared-slice-read-number-of-3
+    add-number-of-3
+    shared-slice-read-number-of-4
+    number-of-requires
+    returns)
