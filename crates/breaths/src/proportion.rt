@@ -1,4 +1,4 @@
-// The word of a ratio from 0 to 1, by divisions in 32 bits.
+// The word of a ratio above 0 and up to 1, by divisions in 32 bits.
 ghost use mathlib.Core.Path.{_≡_};
 ghost use Prim.Native.Nat.{_+_, _*_, _/_, _%_, _≤_, _<_};
 ghost use Rattle.breaths.specs.Ratios.{ratioWord};

@@ -42,7 +42,8 @@ impl Ratio {
         if w == 0 { Ratio::Void } else { Ratio::Word(w) }
     }
 
-    // n/d, rounded. Those from 0 to 1 that have no large n, as every breath's, go by a way of their own.
+    // n/d, rounded. Those up to 1 with an n of 32 bits that isn't 0, as nearly every breath's, go by a way
+    // of their own.
     // The format is known, so that only d = 0 stops the writing: there is no ratio then.
     pub fn of_parts(n: u64, d: u64) -> Ratio
         ensures defined { λ r. ⌜ r ≡ partsRatio n d ⌝ }

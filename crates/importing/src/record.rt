@@ -67,8 +67,8 @@ fn number_at(bytes: &[u8], at: usize) -> u32
     number_of(bytes[at], bytes[at + 1], bytes[at + 2], bytes[at + 3])
 }
 
-// Kind 1. Numbers that aren't negative are in the order of their bits, and all other bits are beyond
-// them: so the tests are on the bits, and no float is made of bits that break the rules.
+// Kind 1. Numbers without the sign are in the order of their bits, and all other bits are beyond them: so
+// the tests are on the bits, and no float is made of bits that break the rules.
 fn read_timings(first: u32, second: u32) -> RecordReading
     ensures { λ r. ⌜ recordOutcome r ≡ contentOf (record { kind = 1; first = first; second = second }) ⌝ }
 {
