@@ -224,6 +224,17 @@ def quotients(_, form, __, word, ___):
     return folded([len(found), *found])
 
 
+def quotient_count(_, form, __, word, ___):
+    """The count of the partial quotients."""
+    kind, _, _, size = form.read(word)
+    if kind != FINITE:
+        return 0
+    n, d, count = size.numerator, size.denominator, 0
+    while d:
+        n, d, count = d, n % d, count + 1
+    return count
+
+
 def folded(results):
     """The checksum of results: times 31 plus the next, modulo 2^64."""
     h = 0
@@ -242,6 +253,7 @@ OPERATIONS = {
     "untwist": untwist,
     "gcd": common_divisor,
     "quotients": quotients,
+    "quotient_count": quotient_count,
 }
 
 

@@ -65,11 +65,12 @@ int main(void) {
     check("slash_compare", slash_compare(SLASH_FIXED, 15, breath, back, &order));
     printf("the word that came back is %s\n", order == SLASH_EQUAL ? "equal" : "another");
 
-    /* Its partial quotients, in a list of the longest length: 2k. */
+    /* Its partial quotients. No word has more than 2k; just as many places as this one needs are lent. */
     uint32_t quotients[30];
-    uint64_t count = 0;
-    check("slash_quotients", slash_quotients(SLASH_FIXED, 15, breath, quotients, 30, &count));
-    printf("partial quotients:");
+    uint64_t places = 0, count = 0;
+    check("slash_quotient_count", slash_quotient_count(SLASH_FIXED, 15, breath, &places));
+    check("slash_quotients", slash_quotients(SLASH_FIXED, 15, breath, quotients, places, &count));
+    printf("%" PRIu64 " partial quotients:", places);
     for (uint64_t i = 0; i < count; i++) {
         printf(" %" PRIu32, quotients[i]);
     }

@@ -136,9 +136,15 @@ uint64_t slash_convert(uint64_t kind, uint64_t k, uint64_t to_kind, uint64_t to_
 
 /* Stores the partial quotients of the absolute value, first one first, at the start of the list,
  * leaves the rest of the list as it was, and stores their count, at most 2k: 1 for a zero, 0 for an
- * infinity or a not-a-number. Stops 1, 4, 5, 7. */
+ * infinity or a not-a-number. They go into the list as they are found, once it is known that they fit;
+ * no other list of them is kept. Stops 1, 4, 5, 7. */
 uint64_t slash_quotients(uint64_t kind, uint64_t k, uint64_t operand, uint32_t *list,
                          size_t list_length, uint64_t *count);
+
+/* Stores how many partial quotients a word has, with no list lent: what slash_quotients counts, at most
+ * 2k, 1 for a zero, 0 for an infinity or a not-a-number. A list of so many places is long enough for
+ * slash_quotients, and every shorter one gets its stop 7. Stops 1, 4, 5. */
+uint64_t slash_quotient_count(uint64_t kind, uint64_t k, uint64_t operand, uint64_t *count);
 
 /* Stores the word twisted, so that its numerator stands at the right. The sign, the mark and the slash
  * position e stay where they are. For e <= k - 2 the leftmost e bits of the field hold the denominator

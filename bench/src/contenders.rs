@@ -11,6 +11,7 @@ pub enum Operation {
     Unary(u64),
     Gcd,
     Quotients,
+    QuotientCount,
     Convert,
     Twist,
     Untwist,
@@ -24,9 +25,13 @@ pub enum Operation {
 use Operation::*;
 
 impl Operation {
-    /// Whether it rearranges a word's bits, which is nothing that GMP's rationals do.
-    pub fn is_twisting(self) -> bool {
-        matches!(self, Twist | Untwist | TwistEach | UntwistEach)
+    /// Whether there is a form with tables, which takes part in GMP's place. (To rearrange a word's bits is
+    /// nothing that GMP's rationals do.)
+    pub fn has_tables(self) -> bool {
+        matches!(
+            self,
+            QuotientCount | Twist | Untwist | TwistEach | UntwistEach
+        )
     }
 }
 
@@ -114,6 +119,12 @@ macro_rules! through_c {
                         return each(inputs, out, |a, _| {
                             calls::slash_quotients(kind, k, a, list.as_mut_ptr(), list.len(), &mut word);
                             folded_list(&list, word)
+                        })
+                    }
+                    QuotientCount => {
+                        return each(inputs, out, |a, _| {
+                            calls::slash_quotient_count(kind, k, a, &mut word);
+                            word
                         })
                     }
                     Convert => {
@@ -279,7 +290,9 @@ pub fn gmp(row: &Row, out: &mut [u64]) {
             Convert | ConvertEach => {
                 each(inputs, out, |a, _| gmp_convert(kind, k, to_kind, to_k, a))
             }
-            Twist | Untwist | TwistEach | UntwistEach => unreachable!("GMP takes no part"),
+            QuotientCount | Twist | Untwist | TwistEach | UntwistEach => {
+                unreachable!("GMP takes no part")
+            }
         }
     }
 }
@@ -293,6 +306,7 @@ pub fn python_name(operation: Operation) -> (&'static str, u64) {
         Unary(code) | UnaryEach(code) => ("unary", code),
         Gcd => ("gcd", 0),
         Quotients => ("quotients", 0),
+        QuotientCount => ("quotient_count", 0),
         Convert | ConvertEach => ("convert", 0),
         Twist | TwistEach => ("twist", 0),
         Untwist | UntwistEach => ("untwist", 0),

@@ -45,6 +45,7 @@ fn main() {
     let mut rows = rows(&mut source);
     let recording = source.recording(BREATHS);
     rows.extend(twisting_rows(&mut source));
+    rows.extend(counting_rows());
     let room = std::env::temp_dir().join(format!("bench-{}", std::process::id()));
     fs::create_dir_all(&room).expect("a temporary folder");
     print!("{}", head());
@@ -104,6 +105,17 @@ fn rows(source: &mut Source) -> Vec<Row> {
     ask("floor, a vector", UnaryEach(4), FIXED_15, FIXED_15);
     ask("convert, a vector", ConvertEach, FIXED_31, FIXED_15);
     rows
+}
+
+/// Their inputs are drawn from a source of their own, so that all others have those that they had.
+fn counting_rows() -> Vec<Row> {
+    let mut source = Source::new(3);
+    [FIXED_15, FIXED_31, FLOATING_32]
+        .map(|form| {
+            let (name, operation) = ("count of the quotients", Operation::QuotientCount);
+            row(&mut source, name, operation, form, form)
+        })
+        .into()
 }
 
 /// Their inputs are drawn last, so that every other row and the recording have those that they had.
@@ -193,7 +205,7 @@ type Contender = fn(&Row, &mut [u64]);
 /// would be below the true one in every other round and above it in the rest, and their median anywhere
 /// between; with three the rounds in which neither was first are in the middle.
 fn contenders_of(row: &Row) -> [Contender; 3] {
-    let third = if row.operation.is_twisting() {
+    let third = if row.operation.has_tables() {
         contenders::tables
     } else {
         contenders::gmp
@@ -256,7 +268,7 @@ fn table_of_calls(rows: &[Row], times: &[Times], python_ratios: &[Vec<f64>]) -> 
          | | Archive, ns | Hand-written Rust | GMP | Python's Fraction |\n|---|--:|--:|--:|--:|\n",
     );
     for ((row, [archive, hand, third]), python) in rows.iter().zip(times).zip(python_ratios) {
-        let gmp = if row.operation.is_twisting() {
+        let gmp = if row.operation.has_tables() {
             "–".to_string()
         } else {
             format!("{:.1}", ratio(archive, third))

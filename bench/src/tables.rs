@@ -1,4 +1,4 @@
-//! Twisting with tables, beside the archive.
+//! Twisting and counting with tables, beside the archive.
 
 use crate::contenders::{self, Operation::*, Row};
 use crate::inputs::Source;
@@ -8,21 +8,22 @@ use std::fmt::Write as _;
 /// The largest format of which every word is compared.
 const SMALL_K: u64 = 12;
 
-/// The times are those of the table of calls: in its twisting rows this form was the third in turn.
+/// The times are those of the table of calls: in these rows this form was the third in turn.
 pub fn section(rows: &[Row], times: &[Times]) -> String {
-    assert_twisted_alike();
+    assert_alike();
     let mut section = String::from(
-        "## Twisting with tables\n\n\
+        "## Twisting and counting with tables\n\n\
          The archive's calls of the same rounds beside hand-written Rust that looks the layout up by k and, \
          in a vector, masks and factors by slash position, with products in place of shifts and the \
          denominators of eight words turned at once \
          (`bench/hand/src/tables.rs`): another algorithm than the archive's, shown so that nobody takes the \
          column above for the fastest there is; it makes the tables of slash positions at each call, so that \
-         short vectors take longer.\n\n\
+         short vectors take longer. Quotients are counted as the archive does it until the divisor is below 128, \
+         and the last ones looked up in a table of 16 KB.\n\n\
          | | Archive, ns | Hand-written Rust with tables |\n|---|--:|--:|\n",
     );
     for (row, [archive, _, tables]) in rows.iter().zip(times) {
-        if row.operation.is_twisting() {
+        if row.operation.has_tables() {
             writeln!(
                 section,
                 "| {} | {:.1} | {:.2} |",
@@ -36,26 +37,39 @@ pub fn section(rows: &[Row], times: &[Times]) -> String {
     section + "\n"
 }
 
-/// Holds the two hand-written forms to each other, on every word of the small formats and on random ones of
-/// the large.
-fn assert_twisted_alike() {
+/// Holds the two hand-written forms to each other, on every word of the small floating formats and on random
+/// ones of the large; counts on random ones of the fixed formats too.
+fn assert_alike() {
     let mut source = Source::new(2);
     for form in (2..=32).map(|k| (2, k)) {
-        for operation in [Twist, Untwist, TwistEach, UntwistEach] {
-            let mut row = row(&mut source, "twisting", operation, form, form);
+        for (name, operation) in [
+            ("twist", Twist),
+            ("untwist", Untwist),
+            ("twist, a vector", TwistEach),
+            ("untwist, a vector", UntwistEach),
+            ("count", QuotientCount),
+        ] {
+            let mut row = row(&mut source, name, operation, form, form);
             if form.1 <= SMALL_K {
                 row.left = every_word(form.1);
                 row.right = row.left.clone();
                 row.inputs = row.left.iter().map(|&word| (word, word)).collect();
             }
-            let [hand, tables] = [contenders::hand, contenders::tables].map(|contender| {
-                let mut out = vec![0; row.left.len()];
-                contender(&row, &mut out);
-                out
-            });
-            assert!(hand == tables, "{} with tables", row.name);
+            assert_row_alike(&row);
         }
     }
+    for form in (2..=31).map(|k| (1, k)) {
+        assert_row_alike(&row(&mut source, "count", QuotientCount, form, form));
+    }
+}
+
+fn assert_row_alike(row: &Row) {
+    let [hand, tables] = [contenders::hand, contenders::tables].map(|contender| {
+        let mut out = vec![0; row.left.len()];
+        contender(row, &mut out);
+        out
+    });
+    assert!(hand == tables, "{} with tables", row.name);
 }
 
 /// Every good word of a floating format.

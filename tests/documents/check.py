@@ -9,11 +9,13 @@ but the notes on changes: each name in backticks is that of something in the rep
 a crate's name of something of that crate. Then: every must-fail edit is cited under its crate,
 every public function has two wrong programs and a row in CLAIMS.md, every crate has a row in
 README.md or ARCHITECTURE.md, include/slash.h declares the functions of crates/ffi and no others,
-and what must be trusted stands apart (trusted.py).
+the sources of the partial quotients have no array, and what must be trusted stands apart
+(trusted.py).
 
 Prints each failure as `file:line: what is wrong`, and ends with status 1 where there is any.
 """
 
+import re
 import sys
 from collections import Counter
 from pathlib import Path
@@ -30,6 +32,10 @@ README, ARCHITECTURE, HEADER = "README.md", "docs/ARCHITECTURE.md", "include/sla
 
 # Measured figures, written by a program; and the notes on changes, which name what was there before.
 LEFT_OUT = ("bench/RESULTS.md", "docs/changes/")
+
+# Where CLAIMS.md says that there is no array besides the caller's list (CR 6). Brackets there are those of
+# an index, of an attribute or of a slice that is lent, `[u32]`; any others are an array's.
+WITHOUT_ARRAYS = ("crates/euclid/src/", "crates/ffi/src/words.rt")
 
 
 class Findings:
@@ -65,6 +71,7 @@ class Check:
         self.check_functions()
         self.check_crates()
         self.check_header()
+        self.check_arrays()
         self.trusted.check()
         return sorted(self.findings.failures)
 
@@ -105,6 +112,27 @@ class Check:
             self.findings.fail(HEADER, 1, f"declares `{name}`, which crates/ffi doesn't define")
         for name in defined - self.repo.header:
             self.findings.fail(HEADER, 1, f"doesn't declare `{name}` of crates/ffi")
+
+    def check_arrays(self):
+        """The partial quotients go into the caller's list, and stand in no array besides it."""
+        for path in sorted(path for path in self.repo.files if path.startswith(WITHOUT_ARRAYS)):
+            for number, line in self.repo.lines(path):
+                if has_array(line):
+                    self.findings.fail(path, number, "has an array, and there is to be none")
+
+
+def has_array(line):
+    """Whether a line of code has brackets that are neither an index's, an attribute's nor a slice's."""
+    code = line.partition("//")[0]
+    if re.match(r"\s*(?:ghost|ensures|requires) ", code):
+        return False
+    for bracket in re.finditer(r"\[", code):
+        before, behind = code[: bracket.start()].rstrip(), code[bracket.end() :]
+        index = re.search(r"[\w)\]]$", before) and not re.search(r"\b(?:mut|return|in)$", before)
+        slice_type = re.match(r"(?:u8|u32|u64)\]", behind)
+        if not (index or before.endswith("#") or slice_type):
+            return True
+    return False
 
 
 def main():

@@ -12,7 +12,7 @@ from pathlib import Path
 
 sys.dont_write_bytecode = True
 
-from check import ARCHITECTURE, HEADER, README, Check
+from check import ARCHITECTURE, HEADER, README, WITHOUT_ARRAYS, Check
 from tables import CLAIMS, WRONG
 from trusted import INTERNAL, THEOREM
 
@@ -275,6 +275,18 @@ def contract_that_uses_a_step(scratch, good):
     return f"a public contract uses `{NOTHING}`"
 
 
+def array_where_there_is_none(written, place=0):
+    """An array, so written, in a source that is to have none."""
+
+    def make(scratch, good):
+        path = min(path for path in good.repo.files if path.startswith(WITHOUT_ARRAYS[place]))
+        text = good.repo.text(path)
+        scratch.write(path, f"{text}\nfn {NOTHING}() {{\n    {written}\n}}\n")
+        return "has an array"
+
+    return make
+
+
 BREAKS = {
     "a definition misspelt": misspelt("definition"),
     "a definition under the wrong crate": definition_of_another_crate,
@@ -308,6 +320,10 @@ BREAKS = {
     "an internal module that is listed": module_listed_that_is_internal,
     "a definition that uses an internal one": definition_that_uses_a_step,
     "a public contract that uses an internal definition": contract_that_uses_a_step,
+    "an array by its length": array_where_there_is_none("let found = [0u32; 64];"),
+    "an array by its elements": array_where_there_is_none("fill(&mut [0, 0]);"),
+    "an array that begins a line": array_where_there_is_none("["),
+    "an array on the way to C": array_where_there_is_none("let found: [u32; 64];", 1),
 }
 
 

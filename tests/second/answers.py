@@ -172,6 +172,21 @@ def answer_quotients(kind, k, length, word):
     return " ".join([first, *map(str, lent)])
 
 
+def answer_count(kind, k, word):
+    """c: the count of a word's partial quotients, with no list lent."""
+    return "%d" % operations.quotient_count(slash.make_format(kind, k), word)
+
+
+def answer_count_each(kind, k):
+    """C: what c answers for every word."""
+    form = slash.make_format(kind, k)
+
+    def operation(word):
+        return operations.quotient_count(form, word)
+
+    return each_word(form, "%d", operation)
+
+
 # Twisted storage. Way 1 twists, way 2 untwists.
 
 
@@ -291,6 +306,8 @@ ANSWERS = {
     "g": answer_divisor,
     "G": answer_divisor_each,
     "q": answer_quotients,
+    "c": answer_count,
+    "C": answer_count_each,
     "x": answer_binary_vector,
     "y": answer_unary_vector,
     "z": answer_convert_vector,

@@ -33,6 +33,9 @@ UNKNOWN_CODES = (0, 8, 9, 255, 257, 2**32 + 1, 2**63 + 7, LARGEST)
 # The length of the longest list that is lent.
 LONGEST_LIST = 70
 
+# The partial quotients of which fractions are made up that have many.
+SMALL_QUOTIENTS = (1, 2, 3)
+
 
 def requests():
     """All request lines in order, each asked once."""
@@ -175,8 +178,14 @@ def negative_words():
 
 def quotients_in_lists(form, word):
     """The word's partial quotients into lists too short, long enough and longer."""
+    yield request("q", *form, 0, word)
+    yield from lists_about_the_count(form, word)
+
+
+def lists_about_the_count(form, word):
+    """The word's quotients into lists a place too short, just enough, a place more."""
     count = len(operations.quotients_of(form, word))
-    for length in (0, count - 1, count, count + 1):
+    for length in (count - 1, count, count + 1):
         if 0 <= length <= LONGEST_LIST:
             yield request("q", *form, length, word)
 
@@ -198,15 +207,20 @@ def quotients_of_random_words():
 
 
 def quotients_of_long_words():
-    """Fractions with many quotients, small ones and all the same, both ways up."""
+    """The partial quotients of words that have many, into the longest list too."""
     for form in slash.all_formats():
-        for quotient in (1, 2, 3):
-            n, d = longest_pair(form, quotient)
-            for pair in ((n, d), (d, n)):
-                word = slash.pair_word(form, quotient % 2, pair, (n + d) % 2)
-                yield from quotients_in_lists(form, word)
-                yield request("q", *form, LONGEST_LIST, word)
-                yield request("q", *form, 2 * form.k, word)
+        for word in long_words(form, SMALL_QUOTIENTS):
+            yield from quotients_in_lists(form, word)
+            yield request("q", *form, LONGEST_LIST, word)
+            yield request("q", *form, 2 * form.k, word)
+
+
+def long_words(form, quotients):
+    """For each of these quotients the longest fraction made up of it, both ways up."""
+    for quotient in quotients:
+        n, d = longest_pair(form, quotient)
+        for pair in ((n, d), (d, n)):
+            yield slash.pair_word(form, quotient % 2, pair, (n + d) % 2)
 
 
 def longest_pair(form, quotient):

@@ -13,6 +13,7 @@ import vectors
 from answers import LENT, answer
 from cases_common import chosen, small_formats
 from cases_night import EXAMPLE, EXAMPLE_LISTING, next_to, ties
+from checks_counts import check_counts
 from checks_listings import check_listings
 from checks_source import check_source
 from checks_timings import check_timings
@@ -161,6 +162,7 @@ def check_all():
     check_demand_3()
     check_one_word()
     check_quotients()
+    check_counts()
     check_vectors()
     check_twisting()
     check_timings()

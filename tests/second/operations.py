@@ -1,4 +1,4 @@
-"""The operations on words of slash arithmetic, from documents 00 and 01 alone."""
+"""The operations on words of slash arithmetic, from 00, 01 and CR 6 of 02 alone."""
 
 import math
 from fractions import Fraction
@@ -237,3 +237,19 @@ def lend_quotients(form, word, lent):
         raise Stop(LIST_TOO_SHORT)
     lent[: len(quotients)] = quotients
     return len(quotients)
+
+
+def quotient_count(form, word):
+    """The count of the partial quotients alone, with no list lent.
+
+    Euclid's divisions of the stored parts are counted, for each yields one quotient;
+    no quotient is kept, and the parts aren't brought to lowest terms, as quotients_of
+    does. A zero, 0/1, takes one division; an infinity, 1/0, and a not-a-number, 0/0,
+    take none.
+    """
+    value = slash.read_word(form, word)
+    dividend, divisor, count = value.numerator, value.denominator, 0
+    while divisor != 0:
+        dividend, divisor = divisor, dividend % divisor
+        count += 1
+    return count

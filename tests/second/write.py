@@ -6,6 +6,7 @@ from itertools import chain
 
 import answers
 import cases_binary
+import cases_counts
 import cases_files
 import cases_load
 import cases_night
@@ -29,6 +30,7 @@ CASE_MODULES = [
     cases_vectors,
     cases_twisting,
     cases_timings,
+    cases_counts,
 ]
 
 

@@ -42,11 +42,12 @@ fn main() -> Result<(), Stop> {
         if equal { "equal" } else { "another" }
     );
 
-    // Its partial quotients, in a list of the longest length: 2k.
-    let mut list = [0; 30];
-    let count = slash::quotients(recorder, breath, &mut list)?;
-    let quotients: Vec<String> = list[..count].iter().map(u32::to_string).collect();
-    println!("partial quotients: {}", quotients.join(" "));
+    // Its partial quotients, in a list of just so many places.
+    let places = slash::quotient_count(recorder, breath)?;
+    let mut list = vec![0; places];
+    slash::quotients(recorder, breath, &mut list)?;
+    let quotients: Vec<String> = list.iter().map(u32::to_string).collect();
+    println!("{places} partial quotients: {}", quotients.join(" "));
 
     // A refused call is an error.
     let stop = slash::round(recorder, 277, 0).expect_err("a denominator of 0");

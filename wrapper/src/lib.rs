@@ -147,12 +147,22 @@ pub fn convert(source: Format, target: Format, operand: u64) -> Result<u64, Stop
 
 /// Puts a word's partial quotients into the list and counts them; stops 1, 4 and 5, then 7.
 ///
-/// There are at most 2k. What the list has beyond them is left as it was.
+/// There are at most 2k, and [`quotient_count`] tells how many. What the list has beyond them is left as it
+/// was.
 pub fn quotients(form: Format, operand: u64, list: &mut [u32]) -> Result<usize, Stop> {
     let (start, length) = (list.as_mut_ptr(), list.len());
     let count = stored(|count| unsafe {
         raw::slash_quotients(form.kind, form.k, operand, start, length, count)
     })?;
+    Ok(count as usize)
+}
+
+/// How many partial quotients a word has, with no list lent; stops 1, then 4 and 5.
+///
+/// A list of so many places is long enough for [`quotients`], and every shorter one gets stop 7.
+pub fn quotient_count(form: Format, operand: u64) -> Result<usize, Stop> {
+    let count =
+        stored(|count| unsafe { raw::slash_quotient_count(form.kind, form.k, operand, count) })?;
     Ok(count as usize)
 }
 

@@ -44,6 +44,7 @@ extern "C" {
         list_length: usize,
         count: *mut u64,
     ) -> u64;
+    pub fn slash_quotient_count(kind: u64, k: u64, operand: u64, count: *mut u64) -> u64;
     pub fn slash_twist(kind: u64, k: u64, word: u64, twisted: *mut u64) -> u64;
     pub fn slash_untwist(kind: u64, k: u64, twisted: u64, word: *mut u64) -> u64;
     pub fn slash_binary_each(

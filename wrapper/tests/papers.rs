@@ -76,6 +76,22 @@ fn a_list_keeps_what_lies_beyond_the_quotients() {
 }
 
 #[test]
+fn a_list_of_the_count_is_just_long_enough() {
+    let recorder = Format::fixed(15);
+    // 277/642, zero, infinity and not-a-number.
+    for (word, count) in [(0x01150282, 7), (1, 1), (0x10000, 0), (0, 0)] {
+        assert_eq!(slash::quotient_count(recorder, word), Ok(count));
+        let mut list = vec![9; count];
+        assert_eq!(slash::quotients(recorder, word, &mut list), Ok(count));
+        if count > 0 {
+            let (number, place) = (7, 0);
+            let short = slash::quotients(recorder, word, &mut list[1..]);
+            assert_eq!(short, Err(Stop { number, place }));
+        }
+    }
+}
+
+#[test]
 fn stops_are_the_papers() {
     let stop = |number, place| Stop { number, place };
     assert_eq!(slash::round(Format::fixed(1), 1, 1), Err(stop(1, 0)));
@@ -83,6 +99,12 @@ fn stops_are_the_papers() {
     assert_eq!(slash::round(Format::floating(32), 1, 0), Err(stop(6, 0)));
     assert_eq!(slash::unary(FIXED_3, Unary::Negate, 0x100), Err(stop(4, 0)));
     assert_eq!(slash::gcd(Format::floating(3), 0x08), Err(stop(5, 0)));
+    assert_eq!(slash::quotient_count(Format::fixed(1), 0), Err(stop(1, 0)));
+    assert_eq!(slash::quotient_count(FIXED_3, 0x100), Err(stop(4, 0)));
+    assert_eq!(
+        slash::quotient_count(Format::floating(3), 0x08),
+        Err(stop(5, 0))
+    );
 }
 
 #[test]

@@ -448,25 +448,77 @@ pub fn gcd(kind: u64, k: u64, operand: u64) -> Answer {
     Ok(a)
 }
 
+/// The parts of a finite word, which have 32 bits at most; none for an infinity or a not-a-number.
+#[inline]
+fn finite_parts(form: Form, word: u64) -> Result<Option<(u32, u32)>, u64> {
+    let Number { class, n, d, .. } = read(form, word)?;
+    Ok((class == Class::Finite).then_some((n as u32, d as u32)))
+}
+
 #[inline]
 pub fn quotients(kind: u64, k: u64, operand: u64, list: &mut [u32]) -> Answer {
     let form = form(kind, k)?;
-    let Number { class, n, d, .. } = read(form, operand)?;
-    if class != Class::Finite {
+    let Some((mut a, mut b)) = finite_parts(form, operand)? else {
         return Ok(0);
-    }
-    // 2k quotients at most, k at most 32.
-    let mut found = [0; 64];
-    let (mut n, mut d, mut count) = (n, d, 0);
-    while d != 0 {
-        found[count] = (n / d) as u32;
-        (n, d, count) = (d, n % d, count + 1);
-    }
-    let Some(place) = list.get_mut(..count) else {
-        return Err(LIST_TOO_SHORT);
     };
-    place.copy_from_slice(&found[..count]);
+    // There are 2k quotients at most, so that only those for a shorter list are counted first.
+    let always_fit = list.len() >= 2 * form.k as usize;
+    if !always_fit && counted(a, b) > list.len() as u64 {
+        return Err(LIST_TOO_SHORT);
+    }
+    let mut count = 0;
+    while b != 0 {
+        list[count] = a / b;
+        (a, b, count) = (b, a % b, count + 1);
+    }
     Ok(count as u64)
+}
+
+#[inline]
+pub fn quotient_count(kind: u64, k: u64, operand: u64) -> Answer {
+    counted_by(counted, kind, k, operand)
+}
+
+/// The count of a word's quotients, by a way to count those of n/d.
+#[inline]
+fn counted_by(counted: fn(u32, u32) -> u64, kind: u64, k: u64, operand: u64) -> Answer {
+    let parts = finite_parts(form(kind, k)?, operand)?;
+    Ok(parts.map_or(0, |(n, d)| counted(n, d)))
+}
+
+/// By what the divisor is divided next, and how many quotients are passed over. Where more than
+/// half of the divisor remains, the next quotient is 1, and leaves what the rest lacks of the
+/// divisor. Dividing the divisor by that, in place of the rest, makes the quotient behind it larger
+/// by 1 and leaves the same. So counting takes 7 divisions for 10 quotients. (Listing by nearest
+/// remainders was no faster where it was measured.)
+#[inline]
+fn nearest(rest: u32, divisor: u32) -> (u32, u64) {
+    if rest > divisor / 2 {
+        (divisor - rest, 1)
+    } else {
+        (rest, 0)
+    }
+}
+
+/// The parts in order, and what of the count is known before any division: below 1 the first
+/// quotient is 0 and leaves n, so that the larger part is divided in any case.
+#[inline]
+fn ordered(n: u32, d: u32) -> (u32, u32, u64) {
+    let a = n.max(d);
+    let (b, passed) = nearest(n.min(d), a);
+    (a, b, u64::from(n < d) + passed)
+}
+
+/// How many partial quotients n/d has, d at least 1.
+#[inline]
+fn counted(n: u32, d: u32) -> u64 {
+    let (mut a, mut b, mut count) = ordered(n, d);
+    while b != 0 {
+        let (next, passed) = nearest(a % b, b);
+        (a, b) = (b, next);
+        count += 1 + passed;
+    }
+    count
 }
 
 // Vectors.

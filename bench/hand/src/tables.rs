@@ -1,8 +1,9 @@
-//! Twisting with tables: the layout is looked up by k, and a vector's words have masks and factors looked up
-//! by slash position, products in place of shifts, and their denominators turned eight at once.
+//! Twisting and counting with tables. The layout is looked up by k, and a vector's words have masks and factors
+//! looked up by slash position, products in place of shifts, and their denominators turned eight at once. The
+//! last quotients of a word are looked up by a small divisor and what remains.
 
 use crate::twisting::Layout;
-use crate::{Answer, UNKNOWN_FORMAT};
+use crate::{counted_by, nearest, ordered, Answer, UNKNOWN_FORMAT};
 
 /// By k; k = 0 and 1 are never asked for.
 const LAYOUTS: [Layout; 33] = {
@@ -113,4 +114,44 @@ impl Moves {
             *out = rest | layout.turned(denominator);
         }
     }
+}
+
+// Counts of quotients.
+
+/// Divisors below this have their counts in a table.
+const SMALL: usize = 128;
+
+/// By a small divisor and what remains: how many quotients there are, this one and those behind it.
+static SMALL_COUNTS: [[u8; SMALL]; SMALL] = {
+    let mut counts = [[1; SMALL]; SMALL];
+    let mut divisor = 2;
+    while divisor < SMALL {
+        let mut rest = 1;
+        while rest < divisor {
+            counts[divisor][rest] = 1 + counts[rest][divisor % rest];
+            rest += 1;
+        }
+        divisor += 1;
+    }
+    counts
+};
+
+#[inline]
+pub fn quotient_count(kind: u64, k: u64, operand: u64) -> Answer {
+    counted_by(counted, kind, k, operand)
+}
+
+/// How many partial quotients n/d has, d at least 1.
+#[inline]
+fn counted(n: u32, d: u32) -> u64 {
+    let (mut a, mut b, mut count) = ordered(n, d);
+    while b as usize >= SMALL {
+        let (next, passed) = nearest(a % b, b);
+        (a, b) = (b, next);
+        count += 1 + passed;
+    }
+    if b == 0 {
+        return count;
+    }
+    count + u64::from(SMALL_COUNTS[b as usize][(a % b) as usize])
 }

@@ -36,6 +36,8 @@ fn run_words(line: Line) {
         b'g' => single::gcd(f, a[3]),
         b'G' => single::gcd_all(f),
         b'q' => single::quotients(f, a[3], a[4]),
+        b'c' => single::quotient_count(f, a[3]),
+        b'C' => single::quotient_count_all(f),
         b't' => single::rearranged(f, a[3], a[4]),
         b'T' => single::rearranged_all(f, a[3]),
         _ => show::text(b"unknown"),

@@ -55,8 +55,8 @@ pub(crate) fn gcd(f: Format, w: u64) {
     show_number(euclid::gcd(f, w));
 }
 
-// A divisor as one of many answers.
-fn show_divisor(a: Answer) {
+// A divisor or a count as one of many answers.
+fn show_one_number(a: Answer) {
     match a {
         Answer::Done(n) => show::number(n),
         Answer::Stopped(s) => show::short_stop(s),
@@ -69,7 +69,7 @@ pub(crate) fn gcd_all(f: Format) {
     let mut w: u64 = 0;
     while w < n {
         show::separator(w == 0);
-        show_divisor(euclid::gcd(f, w));
+        show_one_number(euclid::gcd(f, w));
         w += 1;
     }
 }
@@ -100,4 +100,20 @@ pub(crate) fn quotients(f: Format, length: u64, w: u64) {
     let lent = &mut list[..n];
     show_number(euclid::quotients(f, w, lent));
     show_list(lent);
+}
+
+// c KIND K WORD
+pub(crate) fn quotient_count(f: Format, w: u64) {
+    show_number(euclid::quotient_count(f, w));
+}
+
+// C KIND K
+pub(crate) fn quotient_count_all(f: Format) {
+    let n = count(f);
+    let mut w: u64 = 0;
+    while w < n {
+        show::separator(w == 0);
+        show_one_number(euclid::quotient_count(f, w));
+        w += 1;
+    }
 }

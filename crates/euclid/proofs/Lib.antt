@@ -1,3 +1,4 @@
--- The laws that the functions' proofs cite.
+-- The laws that the functions' proofs cite, and what follows from the definitions.
 pub mod DivisorLaws
+pub mod CountLaws
 pub mod QuotientLaws

@@ -1,4 +1,4 @@
--- The partial quotients of a word's finite absolute value, into a lent list.
+-- The partial quotients of a word's finite absolute value: their count alone, and they themselves in a lent list.
 use Prim.Native.Nat.{ℕ}
 use mathlib.Core.List.{List, [], _++_}
 use lib.Dec.{leb}
@@ -23,6 +23,10 @@ valueQuotients NotANumber = []
 unfoldable pub wordQuotients : Format → ℕ → Outcome (List ℕ)
 wordQuotients f w = readWord f w then λ x. done (valueQuotients (x .value))
 
+-- The count alone, with no list lent.
+unfoldable pub countAlone : Format → ℕ → Outcome ℕ
+countAlone f w = wordQuotients f w then λ new. done (length new)
+
 -- Quotients and a lent list: their count, or stop 7 where the list is shorter.
 unfoldable pub countIn : List ℕ → List ℕ → Outcome ℕ
 countIn list new = if leb (length new) (length list) then done (length new) else stop 7 0
@@ -31,7 +35,7 @@ countIn list new = if leb (length new) (length list) then done (length new) else
 unfoldable pub storedIn : List ℕ → List ℕ → List ℕ
 storedIn list new = if leb (length new) (length list) then new ++ drop (length new) list else list
 
--- Of a word: the count, and the list.
+-- Of a word and a lent list: the count, and the list.
 unfoldable pub quotientCount : Format → ℕ → List ℕ → Outcome ℕ
 quotientCount f w list = wordQuotients f w then countIn list
 

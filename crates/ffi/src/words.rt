@@ -12,7 +12,7 @@ ghost use Rattle.arithmetic.specs.Comparison.{orderNumber, comparisonOutcome, c
 ghost use Rattle.conversion.specs.Conversion.{convertWord};
 ghost use Rattle.unary.specs.Operations.{exactUnary, unaryWord};
 ghost use Rattle.euclid.specs.Divisor.{gcdWord};
-ghost use Rattle.euclid.specs.Quotients.{wordQuotients, quotientCount, quotientsAfter};
+ghost use Rattle.euclid.specs.Quotients.{wordQuotients, countAlone, quotientCount, quotientsAfter};
 ghost use Rattle.twisting.specs.Twisting.{twistWord, untwistWord};
 ghost use Rattle.ffi.specs.Status.{status, behind};
 use crate::status::store;
@@ -158,4 +158,14 @@ pub extern "C" fn slash_quotients(
 {
     let f = Format { kind: kind, k: k };
     store(euclid::quotients(f, operand, list), count)
+}
+
+// How many partial quotients a word has, with no list lent. Stops 1, 4, 5.
+#[no_mangle]
+pub extern "C" fn slash_quotient_count(kind: u64, k: u64, operand: u64, count: &mut u64) -> u64
+    ensures returned { λ r. ⌜ r ≡ status (countAlone (formatOf kind k) operand) ⌝ }
+    ensures stored { λ _. ⌜ now (count .exit) ≡ behind (countAlone (formatOf kind k) operand) (now (count .entry)) ⌝ }
+{
+    let f = Format { kind: kind, k: k };
+    store(euclid::quotient_count(f, operand), count)
 }

@@ -1,17 +1,19 @@
 -- Reading a word, one law for each way through the code: a fixed and a floating word give their fields and their number; the checks give
--- the stops 1, 4 and 5 in this order; what `check` finds good is what `readWord` reads (`checked-read`). Assumes nothing.
+-- the stops 1, 4 and 5 in this order, and no others (`read-stops`); what `check` finds good is what `readWord` reads (`checked-read`). Assumes nothing.
 use mathlib.Core.Path.{_≡_, refl, sym, ap, _∙_}
-use mathlib.Core.Bool.{Bool, true, false, _&&_}
+use mathlib.Core.Bool.{Bool, true, false, _&&_, not}
+use mathlib.Core.Logic.{_⊎_, inl, inr}
 use Prim.Native.Nat.{ℕ, _+_, _-_, _*_, _/_, _%_, _^_, _≤_, _<_}
 use native.Mathlib.Omega.{arith}
 use native.Mathlib.Nat.{le-div-iff-mul-le, div-lt-iff-lt-mul, div-add-mod', mod-eq-of-lt}
 use lib.Dec.{leb, eqb}
 use lib.Pow.{pow-pos, shr-shr}
 use borrow.Author.Tests.{le-leb, lt-leb, leb-true, leb-false, eq-eqb, ne-eqb}
+use Rattle.convergents.specs.Choice.{if_then_else_}
 use Rattle.slash.specs.Answers.{Outcome, stop, done, _then_}
 use Rattle.slash.specs.Reading.{checkOutcome, fixedValue, fixedNumber, slashPosition, slashUndefined, floatingFraction, floatingSpecial, floatingNumber, numberOf, isAbove, checkWord, goodWord, checkedWord, readWord, fieldsOf, numberIn, fieldsIn, fixedFields, floatingFields}
 use Rattle.slash.specs.Bits.{bits, bit}
-use Rattle.slash.specs.Formats.{kFits, known, checkFormat, slashBits, widthOf}
+use Rattle.slash.specs.Formats.{isFixed, kFits, known, checkFormat, slashBits, widthOf}
 use Rattle.slash.specs.declared.answer.Stop.{Stop}
 use Rattle.slash.specs.declared.fields.Fields.the-variants.{Fixed, Floating}
 use Rattle.slash.specs.declared.format.Format.{Format}
@@ -158,6 +160,12 @@ above-is width w h = go (leb 2 (w / 2 ^ (width - 1))) refl
 pub above-case : (f : Format) (w width : ℕ) (b : Bool) {c : Bool} → width ≡ widthOf f → b ≡ isAbove width w → b ≡ c → isAbove (widthOf f) w ≡ c
 above-case f w width b e h g = ap (λ (j : ℕ). isAbove j w) (sym e) ∙ sym h ∙ g
 
+-- a word's check by its three tests: the format is known, bits above the width, an undefined slash position
+abbrev checkBy : (a b c : Bool) → Outcome (Unit {0})
+checkBy a b c =
+    let format : Outcome (Unit {0}) = if a then done tt else stop 1 0 in
+    format then λ _. if b then stop 4 0 else if c then stop 5 0 else done tt
+
 module _ (f : Format) (w : ℕ) where
   -- the answers of `check`
   pub check-refused : {n p : ℕ} → stop n p ≡ checkFormat f → stop n p ≡ checkWord f w
@@ -258,6 +266,17 @@ module _ (f : Format) (w : ℕ) where
       go : (o : Outcome (Unit {0})) → checkWord f w ≡ o → checkWord f w ≡ done tt
       go (stop n p) e = absurd (no-stop (sym (ap (λ (q : Outcome (Unit {0})). q then λ _. done (numberOf f w)) e) ∙ r))
       go (done u) e = e
+
+  -- no other numbers than 1, 4 and 5 stop a word, and no place is told
+  pub read-stops : {n p : ℕ} → readWord f w ≡ stop n p → ((n ≡ 1) ⊎ ((n ≡ 4) ⊎ (n ≡ 5))) × (p ≡ 0)
+  unfolding readWord checkWord checkFormat
+  read-stops {n} {p} = go (known f) (isAbove (widthOf f) w) (not (isFixed f) && slashUndefined (f .k) w)
+    where
+      go : (a b c : Bool) → (checkBy a b c then λ _. done (numberOf f w)) ≡ stop n p → ((n ≡ 1) ⊎ ((n ≡ 4) ⊎ (n ≡ 5))) × (p ≡ 0)
+      go false b c e = (inl cc, cc)
+      go true true c e = (inr (inl cc), cc)
+      go true false true e = (inr (inr cc), cc)
+      go true false false e = absurd (no-stop (sym e))
 
 -- what `check` answered, by its case: the word is read so
 module _ (f : Format) (w : ℕ) {r : Checked} (h : checkOutcome r ≡ checkedWord f w) where

@@ -149,6 +149,10 @@ fn format_answer(letter: &str, form: Format, numbers: &[u64]) -> Answer<String> 
         ("G", []) => Ok(each(form, |word| {
             paper::gcd(form, word).map(|divisor| divisor.to_string())
         })),
+        ("c", &[word]) => paper::quotient_count(form, word).map(|count| count.to_string()),
+        ("C", []) => Ok(each(form, |word| {
+            paper::quotient_count(form, word).map(|count| count.to_string())
+        })),
         _ => panic!("unknown request {letter} {numbers:?}"),
     }
 }

@@ -1,5 +1,5 @@
 //! Slash arithmetic from documents 00 and 01 alone: formats, words, rounding, operations, vectors; and from
-//! CR 4 of 02 the twisted storage of words.
+//! 02 the twisted storage of words (CR 4) and the count alone of the quotients (CR 6).
 //!
 //! Nothing here goes by convergents but `convergents` itself: a rounded pair is found by what demand 3
 //! says of it. Numbers are 128 bits wide, so that no product of parts and ratios can wrap.
@@ -552,12 +552,17 @@ fn binary_gcd(mut a: u64, mut b: u64) -> u64 {
     a << twos
 }
 
-/// Puts the partial quotients of a word into a lent list and counts them; the word's stops, then 7.
-pub fn quotients(form: Format, word: u64, list: &mut [u32]) -> Answer<u64> {
-    let quotients = match read(form, word)?.size {
+/// The partial quotients of a word, none for an infinity or a not-a-number; the word's stops.
+fn quotients_of(form: Format, word: u64) -> Answer<Vec<u128>> {
+    Ok(match read(form, word)?.size {
         Finite((n, d)) => partial_quotients(n, d),
         Infinite | NotANumber => Vec::new(),
-    };
+    })
+}
+
+/// Puts the partial quotients of a word into a lent list and counts them; the word's stops, then 7.
+pub fn quotients(form: Format, word: u64, list: &mut [u32]) -> Answer<u64> {
+    let quotients = quotients_of(form, word)?;
     if list.len() < quotients.len() {
         return stop(7);
     }
@@ -565,6 +570,11 @@ pub fn quotients(form: Format, word: u64, list: &mut [u32]) -> Answer<u64> {
         *place = *quotient as u32;
     }
     Ok(quotients.len() as u64)
+}
+
+/// The count of a word's partial quotients, with no list lent; the word's stops.
+pub fn quotient_count(form: Format, word: u64) -> Answer<u64> {
+    Ok(quotients_of(form, word)?.len() as u64)
 }
 
 // Twisted storage.
@@ -764,6 +774,38 @@ mod tests {
             }
         }
     }
+
+    /// A fraction has one list of quotients above 0, the first apart, whose last is at least 2
+    /// unless it is the only one: that of `partial_quotients`, as its last convergent is the
+    /// fraction.
+    #[test]
+    fn the_quotients_are_those_of_the_fraction() {
+        for (n, d) in (1..90).flat_map(|n| (1..90).map(move |d| (n, d))) {
+            let list = partial_quotients(n, d);
+            assert!(list.iter().skip(1).all(|&quotient| quotient > 0));
+            assert!(list.len() == 1 || list[list.len() - 1] >= 2, "{n}/{d}");
+            let common = u128::from(binary_gcd(n as u64, d as u64));
+            let last = convergents(n, d).pop();
+            assert_eq!(last, Some((n / common, d / common)));
+        }
+    }
+
+    /// CR 6: the count alone is what a long enough list gets, at most 2k; 7 falls on shorter ones.
+    #[test]
+    fn the_count_alone_is_the_least_long_enough_length() {
+        for form in all_formats().filter(|form| form.width() <= 12) {
+            for word in 0..=1 << form.width() {
+                let alone = quotient_count(form, word);
+                for length in 0..=2 * form.k as usize {
+                    let too_short = alone.is_ok_and(|count| (length as u64) < count);
+                    let expected = if too_short { stop(7) } else { alone };
+                    assert_eq!(quotients(form, word, &mut vec![0; length]), expected);
+                }
+                assert!(alone.unwrap_or(0) <= 2 * u64::from(form.k));
+            }
+        }
+    }
+
     /// CR 4's example: 355/113 in k = 26.
     #[test]
     fn the_example_twists_both_ways() {

@@ -97,6 +97,16 @@ pub unsafe extern "C" fn slash_quotients(
 }
 
 #[cfg_attr(not(feature = "unnamed"), no_mangle)]
+pub unsafe extern "C" fn slash_quotient_count(
+    kind: u64,
+    k: u64,
+    operand: u64,
+    count: *mut u64,
+) -> u64 {
+    store(hand::quotient_count(kind, k, operand), count)
+}
+
+#[cfg_attr(not(feature = "unnamed"), no_mangle)]
 pub unsafe extern "C" fn slash_twist(kind: u64, k: u64, word: u64, twisted: *mut u64) -> u64 {
     store(hand::twisting::twist(kind, k, word), twisted)
 }

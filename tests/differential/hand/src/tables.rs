@@ -1,6 +1,15 @@
-//! The same calls, twisting with tables, for the bench: these names are Rust's own with every feature.
+//! The same calls, twisting and counting with tables, for the bench: these names are Rust's own with every feature.
 
 pub use super::*;
+
+pub unsafe extern "C" fn slash_quotient_count(
+    kind: u64,
+    k: u64,
+    operand: u64,
+    count: *mut u64,
+) -> u64 {
+    store(hand::tables::quotient_count(kind, k, operand), count)
+}
 
 pub unsafe extern "C" fn slash_twist(kind: u64, k: u64, word: u64, twisted: *mut u64) -> u64 {
     store(hand::tables::twist(kind, k, word), twisted)

@@ -20,6 +20,9 @@ const GUARDS: usize = 4;
 /// How many bytes after a listing are looked at where the whole rest isn't.
 const REST_SEEN: usize = 256;
 
+/// The most quotients that a word has: 2k.
+const MOST_QUOTIENTS: u64 = 64;
+
 /// How many differences of a function are printed.
 const MOST_PRINTED: u64 = 20;
 
@@ -58,6 +61,21 @@ fn guarded(length: usize) -> Vec<u64> {
 fn lent(list: &mut [u64]) -> &mut [u64] {
     let end = list.len() - GUARDS;
     &mut list[GUARDS..end]
+}
+
+/// A list to lend for quotients, with guards around it.
+fn quotient_list(length: usize) -> Vec<u32> {
+    vec![LENT as u32; GUARDS + length + GUARDS]
+}
+
+/// What the archive returns and stores for a list of quotients of this length, and that list with
+/// its guards.
+fn archive_quotients((kind, k): (u64, u64), operand: u64, length: usize) -> ((u64, u64), Vec<u32>) {
+    let mut list = quotient_list(length);
+    let start = list[GUARDS..].as_mut_ptr();
+    let told =
+        stored(|count| unsafe { raw::slash_quotients(kind, k, operand, start, length, count) });
+    (told, list)
 }
 
 /// The start of a text, to be printed.
@@ -158,22 +176,54 @@ impl Harness {
 
     pub fn quotients(&mut self, form: (u64, u64), operand: u64, length: usize) {
         let (kind, k) = form;
-        let mut list = vec![LENT as u32; GUARDS + length + GUARDS];
-        let mut papers_list = list.clone();
+        let archive = archive_quotients(form, operand, length);
+        let mut list = quotient_list(length);
         let lent = &mut list[GUARDS..GUARDS + length];
-        let (start, count) = (lent.as_mut_ptr(), lent.len());
-        let archive = stored(|number| unsafe {
-            raw::slash_quotients(kind, k, operand, start, count, number)
-        });
-        let lent = &mut papers_list[GUARDS..GUARDS + length];
         let papers = paper::format(kind, k).and_then(|form| paper::quotients(form, operand, lent));
-        let input = (form, operand, length);
         self.hold(
             "slash_quotients",
-            input,
-            (archive, list),
-            (told(papers), papers_list),
+            (form, operand, length),
+            archive,
+            (told(papers), list),
         );
+    }
+
+    /// Holds the count alone to the papers, and then lists of about that length to the count.
+    pub fn quotient_count(&mut self, form: (u64, u64), operand: u64) {
+        let (kind, k) = form;
+        let archive = stored(|count| unsafe { raw::slash_quotient_count(kind, k, operand, count) });
+        let papers = paper::format(kind, k).and_then(|form| paper::quotient_count(form, operand));
+        self.hold(
+            "slash_quotient_count",
+            (form, operand),
+            archive,
+            told(papers),
+        );
+        if let (0, count) = archive {
+            // A larger count differs from the papers', and no list need be so long.
+            self.lists_about(form, operand, count.min(MOST_QUOTIENTS) as usize);
+        }
+    }
+
+    /// CR 6 on the archive's own count: a list one place shorter gets stop 7 and stays as it was;
+    /// one as long, or a place longer, gets so many quotients and keeps its rest.
+    fn lists_about(&mut self, form: (u64, u64), operand: u64, count: usize) {
+        for length in count.saturating_sub(1)..=count + 1 {
+            let (archive, list) = archive_quotients(form, operand, length);
+            let (expected, changed) = if length < count {
+                ((7, LENT), 0)
+            } else {
+                ((0, count as u64), count)
+            };
+            let kept = [&list[..GUARDS], &list[GUARDS + changed..]].concat();
+            let lent = vec![LENT as u32; kept.len()];
+            self.hold(
+                "slash_quotients",
+                (form, operand, length, count),
+                (archive, kept),
+                (expected, lent),
+            );
+        }
     }
 
     pub fn twist(&mut self, form: (u64, u64), word: u64) {

@@ -1,9 +1,10 @@
 //! Holds the archive to the implementation from the papers: compare [CASES [SEED]].
 //!
-//! The exhaustive part first, always whole, then CASES random calls: a million if no number is given. A
-//! case is one call: what it returns and all that was lent to it must be what the papers say. Exit status
-//! 1 where anything differs, and where a function that the header declares had no case in a part; so few
-//! random calls that some function got none are too few.
+//! The exhaustive part first, always whole, then CASES random calls: a million if no number is
+//! given. A case is one call: what it returns and all that was lent to it must be what the papers
+//! say. A call for the count of quotients has up to three more behind it, whose lists are about as
+//! long. Exit status 1 where anything differs, and where a function that the header declares had no
+//! case in a part; so few random calls that some function got none are too few.
 
 mod calls;
 mod counts;
@@ -42,6 +43,7 @@ fn main() -> ExitCode {
 fn exhaustive_part(harness: &mut Harness, source: &mut Source) {
     every_pair_of_words(harness);
     every_word(harness);
+    most_quotients(harness);
     every_small_ratio(harness);
     whole_vectors(harness);
     every_twisted_word(harness);
@@ -75,7 +77,8 @@ fn every_pair_of_words(harness: &mut Harness) {
     }
 }
 
-/// All words of the small formats: every unary code, the divisor, the quotients, all conversions.
+/// All words of the small formats: every unary code, the divisor, the quotients, their count, all
+/// conversions.
 fn every_word(harness: &mut Harness) {
     for form in all_formats().filter(|form| form.width() <= 12) {
         for word in 0..1 << form.width() {
@@ -83,12 +86,29 @@ fn every_word(harness: &mut Harness) {
                 harness.unary(numbers_of(form), code, word);
             }
             harness.gcd(numbers_of(form), word);
+            harness.quotient_count(numbers_of(form), word);
             for length in 0..=2 * form.k as usize {
                 harness.quotients(numbers_of(form), word, length);
             }
             for target in all_formats().filter(|_| form.width() <= 10) {
                 harness.convert(numbers_of(form), numbers_of(target), word);
             }
+        }
+    }
+}
+
+/// In every format the fractions with the most quotients, whose parts are neighbours in 1, 1, 2, 3,
+/// 5, 8 and so on, in lowest terms and not: their count, and a list that never is too short.
+fn most_quotients(harness: &mut Harness) {
+    let neighbours = || std::iter::successors(Some((1, 1)), |&(r, s)| Some((s, r + s)));
+    for form in all_formats() {
+        let held = neighbours().take_while(|&pair| form.holds(pair));
+        let turned = held.flat_map(|(r, s)| [(r, s), (s, r)]);
+        let multiples = turned.flat_map(|(r, s)| (1..=3).map(move |times| (times * r, times * s)));
+        for pair in multiples.filter(|&pair| form.holds(pair)) {
+            let word = paper::pair_word(form, false, pair, false);
+            harness.quotient_count(numbers_of(form), word);
+            harness.quotients(numbers_of(form), word, 2 * form.k as usize);
         }
     }
 }
@@ -214,7 +234,7 @@ fn long_recordings(harness: &mut Harness, source: &mut Source) {
 /// One call, of any function, of a good or a strange format.
 fn random_call(harness: &mut Harness, source: &mut Source) {
     let form = source.format();
-    match source.below(24) {
+    match source.below(25) {
         0..=5 => {
             let (left, right) = source.operands(form);
             harness.binary(form, source.code(4), left, right);
@@ -235,10 +255,11 @@ fn random_call(harness: &mut Harness, source: &mut Source) {
             };
             harness.quotients(form, source.word(form), length);
         }
-        17 | 18 => random_vectors(harness, source, form),
-        19 => listings::random_listing(harness, source),
-        20 | 21 => random_twists(harness, source),
-        22 => records::random_records(harness, source),
+        17 => harness.quotient_count(form, source.word(form)),
+        18 | 19 => random_vectors(harness, source, form),
+        20 => listings::random_listing(harness, source),
+        21 | 22 => random_twists(harness, source),
+        23 => records::random_records(harness, source),
         _ => {
             let lines = source.below(9) as usize;
             let mut recording = source.recording(lines);

@@ -22,8 +22,8 @@ separator-requires c κs = search needs
 gcd-requires : tie.Need-gcd-requires Inv-loop μ-loop
 gcd-requires c κs = search needs
 
-show-divisor-requires : tie.Need-show-divisor-requires Inv-loop μ-loop
-show-divisor-requires c κs = search needs
+show-one-number-requires : tie.Need-show-one-number-requires Inv-loop μ-loop
+show-one-number-requires c κs = search needs
 
 add-w : tie.Need-add-w Inv-loop μ-loop
 add-w c = search needs
@@ -47,7 +47,7 @@ gcd-all-spec =
     loop-holds
     separator-requires
     gcd-requires
-    show-divisor-requires
+    show-one-number-requires
     add-w
     loop-less
     loop-again

@@ -18,7 +18,7 @@ returns c = let short = too-short _ _ (sym (c .before .before .are-more .ensures
     (plain-stop _ 7 (c .plain .ensures) (short .0), short .1)
 
 store-requires : tie.Need-store-requires
-store-requires c κs = (c .before .before .before .before .pre .0, c .before .before .before .before .pre .1, ltb-false _ _ (sym (c .before .before .are-more .ensures) ∙ c .before .if1 .left))
+store-requires c κs = ltb-false _ _ (sym (c .before .before .are-more .ensures) ∙ c .before .if1 .left)
 
 same-length : tie.Need-same-length
 same-length c = search needs
