@@ -1,5 +1,7 @@
 """Answers request lines, by one function for each first letter."""
 
+from functools import partial
+
 import operations
 import slash
 import timings
@@ -81,11 +83,7 @@ def answer_binary(kind, k, code, left, right):
 def answer_binary_each(kind, k, code, left):
     """B: what b answers for every right word."""
     form = slash.make_format(kind, k)
-
-    def operation(right):
-        return operations.binary(form, code, left, right)
-
-    return each_word(form, "%x", operation)
+    return each_word(form, "%x", partial(operations.binary, form, code, left))
 
 
 def answer_compare(kind, k, left, right):
@@ -117,11 +115,7 @@ def answer_convert(kind, k, to_kind, to_k, word):
 def answer_convert_each(kind, k, to_kind, to_k):
     """V: what v answers for every word."""
     source, target = slash.make_format(kind, k), slash.make_format(to_kind, to_k)
-
-    def operation(word):
-        return operations.converted(source, target, word)
-
-    return each_word(source, "%x", operation)
+    return each_word(source, "%x", partial(operations.converted, source, target))
 
 
 # Operations on one word.
@@ -139,11 +133,7 @@ def answer_unary(kind, k, code, word):
 def answer_unary_each(kind, k, code):
     """U: what u answers for every word."""
     form = slash.make_format(kind, k)
-
-    def operation(word):
-        return operations.unary(form, code, word)
-
-    return each_word(form, "%x", operation)
+    return each_word(form, "%x", partial(operations.unary, form, code))
 
 
 def answer_divisor(kind, k, word):
@@ -154,11 +144,7 @@ def answer_divisor(kind, k, word):
 def answer_divisor_each(kind, k):
     """G: what g answers for every word."""
     form = slash.make_format(kind, k)
-
-    def operation(word):
-        return operations.common_divisor(form, word)
-
-    return each_word(form, "%d", operation)
+    return each_word(form, "%d", partial(operations.common_divisor, form))
 
 
 def answer_quotients(kind, k, length, word):
@@ -180,11 +166,7 @@ def answer_count(kind, k, word):
 def answer_count_each(kind, k):
     """C: what c answers for every word."""
     form = slash.make_format(kind, k)
-
-    def operation(word):
-        return operations.quotient_count(form, word)
-
-    return each_word(form, "%d", operation)
+    return each_word(form, "%d", partial(operations.quotient_count, form))
 
 
 # Twisted storage. Way 1 twists, way 2 untwists.
@@ -199,11 +181,7 @@ def answer_twist(kind, k, way, word):
 def answer_twist_each(kind, k, way):
     """T: what t answers for every word."""
     form = slash.make_format(kind, k)
-
-    def operation(word):
-        return twisting.WAYS[way](form, word)
-
-    return each_word(form, "%x", operation)
+    return each_word(form, "%x", partial(twisting.WAYS[way], form))
 
 
 # Vectors. The words come after all lengths: the operands', then the lent result's.

@@ -13,7 +13,7 @@ use native.Mathlib.Numerals.{add-one}
 use lib.ListN.{length, take, drop, set, length-set, length-append, take-append-drop}
 use lib.Seq.{length-take-le, take-suc-set, drop-set-lt, drop-drop}
 use lib.Dec.{leb, ltb}
-use borrow.Author.Tests.{le-leb, lt-leb, leb-true, leb-false, le-ltb, ltb-true, ltb-false}
+use borrow.Author.Tests.{le-leb, lt-leb, leb-true, leb-false, ltb-true, ltb-false}
 use Rattle.convergents.specs.Choice.{if_then_else_}
 use Rattle.convergents.specs.Convergents.{euclid, quotients}
 use Rattle.convergents.specs.Pairs.{Pair, pair}
@@ -95,10 +95,6 @@ module _ {N D : ℕ} {old list : List ℕ} {u v i : ℕ} (s : Storing N D old li
       (sym k, sym (take-append-drop i list) ∙ rw (e, k, s .rest) refl)
 
 -- ---- a list that is long enough, or not
-
--- as many places as there can be quotients
-pub most-fit : (n most places : ℕ) → n ≤ most → most ≤ places → false ≡ ltb places n
-most-fit n most places h l = let g : n ≤ places = omega arith in sym (le-ltb _ _ g)
 
 module _ (list new : List ℕ) where
   pub enough : (n : ℕ) (after : List ℕ) → n ≡ length new → ltb (length list) (length new) ≡ false → after ≡ new ++ drop (length new) list

@@ -1,8 +1,9 @@
 -- `euclid::quotient::are_more` meets its contract. Assumes nothing.
 use native.Mathlib.Omega.{arith}
-use native.Mathlib.Nat.{mod-lt}
+use native.Mathlib.Nat.{le-trans, mod-lt}
+use mathlib.Core.Path.{sym}
+use borrow.Author.Tests.{le-ltb}
 use Rattle.euclid.proofs.CountLaws.{Taking, take-start, take-next, take-more, take-end}
-use Rattle.euclid.proofs.QuotientLaws.{most-fit}
 use Rattle.euclid.proofs.quotient.are_more.Statement.{statement}
 use Rattle.euclid.proofs.quotient.are_more.Tie as tie
 
@@ -13,7 +14,7 @@ abbrev μ-loop : tie.MeasureT-loop
 μ-loop n d most places u₀ v₀ free₀ u v free = v
 
 returns : tie.Need-returns Inv-loop μ-loop
-returns c = most-fit _ _ _ (c .before .pre) (c .if1 .taken)
+returns c = sym (le-ltb _ _ (le-trans (c .before .pre) (c .if1 .taken)))
 
 loop-holds : tie.Need-loop-holds Inv-loop μ-loop
 loop-holds c = take-start _ _ _
