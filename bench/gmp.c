@@ -136,6 +136,15 @@ uint64_t gmp_round(uint64_t kind, uint64_t k, uint64_t numerator, uint64_t denom
     return write_word(form_of(kind, k), result);
 }
 
+/* The word of a breath in fixed k = 15, 0 where it is void. */
+uint64_t gmp_breath(uint64_t rate, uint32_t onset, uint32_t peak, uint32_t next) {
+    uint32_t inward = peak - onset, whole = next - onset;
+    if (whole == 0 || inward > whole || whole > 120 * rate) {
+        return 0;
+    }
+    return gmp_round(1, 15, inward, whole);
+}
+
 static void add(number *left, number *right, number *result) {
     if (left->class == INFINITE || right->class == INFINITE) {
         bool same = left->class != right->class || left->negative == right->negative;

@@ -179,6 +179,16 @@ def round_ratio(_, form, __, n, d):
     return form.write(FINITE, 0, 0, Fraction(n, d))
 
 
+def breath(_, form, __, rate_and_onset, peak_and_next):
+    """The word of a breath, 0 where it is void; two inputs come in one number."""
+    rate, onset = divmod(rate_and_onset, 2**32)
+    peak, following = divmod(peak_and_next, 2**32)
+    inward, whole = (peak - onset) % 2**32, (following - onset) % 2**32
+    if whole == 0 or inward > whole or whole > 120 * rate:
+        return 0
+    return form.write(FINITE, 0, 0, Fraction(inward, whole))
+
+
 def convert(_, form, target, word, __):
     """The word of the target format."""
     return target.write(*form.read(word))
@@ -245,6 +255,7 @@ def folded(results):
 
 OPERATIONS = {
     "round": round_ratio,
+    "breath": breath,
     "binary": binary,
     "unary": unary,
     "compare": compare,

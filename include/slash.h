@@ -20,9 +20,10 @@
  *   stop's number (SLASH_STOP_NUMBER, SLASH_STOP_PLACE), and changes nothing behind any pointer. The
  *   place is an index from 0 in the vector functions' stops 4 and 5 and in slash_timings's 17 and 18, a
  *   line from 1 in slash_night's and in slash_load's 13 to 15, else 0. Where several stops would apply, the
- *   checks run in the order of the numbers, but slash_load's 7 comes last and slash_timings's 16 first; of
- *   words, the lowest place comes first, then the left operand, and within one word 4 before 5; of
- *   records, the lowest place; of a recording or a listing, the first bad line.
+ *   checks run in the order of the numbers, but slash_load's 7 comes last, slash_timings's 16 comes first, and
+ *   on a recording's first line 19 stands in place of 10 and 11; of words, the lowest place comes first, then
+ *   the left operand, and within one word 4 before 5; of records, the lowest place; of a recording or a
+ *   listing, the first bad line.
  *
  * What the caller owes
  *
@@ -78,9 +79,9 @@ extern "C" {
 #define SLASH_UNDEFINED_SLASH_POSITION 5 /* floating word whose e lies between k - 1 and 2^L - 2 */
 #define SLASH_DENOMINATOR_ZERO 6         /* denominator 0 given to rounding */
 #define SLASH_LIST_TOO_SHORT 7           /* list shorter than the quotients or the breaths */
-#define SLASH_TOO_MANY_LINES 8           /* line 65,537 begins */
+#define SLASH_TOO_MANY_BREATHS 8         /* breath 65,537 begins */
 #define SLASH_BAD_LINE_END 9             /* over 32 bytes before the line feed, or no line feed */
-#define SLASH_NOT_THREE_FIELDS 10        /* line with other than two tabs */
+#define SLASH_NOT_THREE_FIELDS 10        /* breath's line with other than two tabs */
 #define SLASH_BAD_TICK_MARK 11           /* field that isn't a number as slash_night takes them */
 #define SLASH_BAD_LISTED_LINE 13         /* line without the shape of a listed one */
 #define SLASH_OUT_OF_SEQUENCE 14         /* number or `all` out of sequence, as slash_load says */
@@ -88,6 +89,7 @@ extern "C" {
 #define SLASH_CUT_RECORD 16              /* byte count not a multiple of SLASH_RECORD_BYTES */
 #define SLASH_UNKNOWN_RECORD 17          /* record of an unknown kind */
 #define SLASH_BAD_RECORD_NUMBER 18       /* number that slash_timings doesn't take in such a record */
+#define SLASH_BAD_RATE 19                /* rate out of 1 to 4096, or a first line that is no rate line */
 
 /* A returned number that isn't 0, taken apart. */
 #define SLASH_STOP_NUMBER(returned) ((returned) % 256)
@@ -190,13 +192,31 @@ uint64_t slash_twist_each(uint64_t kind, uint64_t k, const uint64_t *operand,
 uint64_t slash_untwist_each(uint64_t kind, uint64_t k, const uint64_t *operand,
                             size_t operand_length, uint64_t *out, size_t out_length);
 
+/* Stores the word, in fixed k = 15, of one breath as the recorder's firmware stores it. Onset, peak and next
+ * onset are marks of a clock 32 bits wide that ticks rate times a second, so that its durations are
+ * differences modulo 2^32: in = peak - onset and whole = next - onset. The breath is void if whole is 0, if in
+ * exceeds whole, or if whole is greater than 120 times the rate (a next onset before its onset reads as a
+ * breath of nearly the whole clock); its word is 0 then, which no other breath has. Otherwise in over whole
+ * is rounded as slash_round says. Stop 19, for a rate out of 1 to 4096. */
+uint64_t slash_breath(uint64_t rate, uint32_t onset, uint32_t peak, uint32_t next, uint64_t *word);
+
 /* Stores the listing of a night's recording, what the program `night` prints for it, at the start of
- * the lent listing, leaves the rest as it was, and stores the listing's length. The recording has a
- * breath a line: onset, peak and next onset, decimal numbers from 0 to 4294967295 without leading
- * zeros, parted by one tab, each line ended by one line feed. A recording without a byte is a night with
- * nothing in it: its listing is the line `all`, void. Stops 8, 9, 10, 11, with the line as place. It is
- * read through before anything is stored, so that a stop leaves the listing and the length as they were;
- * the lines before that line are good, and can be listed by a call of their own. */
+ * the lent listing, leaves the rest as it was, and stores the listing's length. The recording opens with the
+ * rate line: `rate` and a whole number from 1 to 4096, the clock's ticks a second. Then it has a breath a
+ * line: onset, peak and next onset, decimal numbers from 0 to 4294967295. Numbers have no leading zeros, what
+ * stands in a line is parted by one tab, and each line is ended by one line feed. A breath has the word that
+ * slash_breath stores of it at that rate, and a void one is left out of the line `all`. A recording without a
+ * byte is a night with nothing in it: its listing is the line `all`, void, and so is that of the rate line
+ * alone. Stops, with the line as place, where the rate line is line 1 and breath i is on line i + 1:
+ *
+ *   8    breath 65,537 begins, at line 65,538
+ *   9    over 32 bytes before the line feed, or no line feed, of the first line too
+ *   10   a breath's line that has not three fields
+ *   11   a field of it that isn't such a number
+ *   19   a first line that is no rate line: there this stands in place of 10 and 11
+ *
+ * The recording is read through before anything is stored, so that a stop leaves the listing and the length as
+ * they were; the lines before that line are good, and can be listed by a call of their own. */
 uint64_t slash_night(const uint8_t *recording, size_t recording_length, uint8_t *listing,
                      uint64_t *length);
 

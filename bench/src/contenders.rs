@@ -6,6 +6,7 @@ use std::hint::black_box;
 #[derive(Clone, Copy, PartialEq)]
 pub enum Operation {
     Round,
+    Breath,
     Binary(u64),
     Compare,
     Unary(u64),
@@ -66,6 +67,17 @@ fn folded_list(list: &[u32], count: u64) -> u64 {
     folded(std::iter::once(count).chain(quotients))
 }
 
+/// The inputs of a breath: its rate and onset, then its peak and next onset, two in a number.
+pub fn packed(rate: u32, [onset, peak, next]: [u32; 3]) -> (u64, u64) {
+    let pair = |high: u32, low: u32| u64::from(high) << 32 | u64::from(low);
+    (pair(rate, onset), pair(peak, next))
+}
+
+/// The rate of packed inputs, then the marks.
+fn unpacked(a: u64, b: u64) -> (u64, [u32; 3]) {
+    (a >> 32, [a as u32, (b >> 32) as u32, b as u32])
+}
+
 /// A contender behind the C interface, so that what calls cost is the same for each.
 macro_rules! through_c {
     ($(#[$about:meta])* $name:ident, $calls:path) => {
@@ -88,6 +100,13 @@ macro_rules! through_c {
                     Round => {
                         return each(inputs, out, |n, d| {
                             calls::slash_round(kind, k, n, d, &mut word);
+                            word
+                        })
+                    }
+                    Breath => {
+                        return each(inputs, out, |a, b| {
+                            let (rate, [onset, peak, next]) = unpacked(a, b);
+                            calls::slash_breath(rate, onset, peak, next, &mut word);
                             word
                         })
                     }
@@ -175,9 +194,16 @@ through_c!(
     hand_calls::tables
 );
 
+through_c!(
+    /// The hand-written Rust, with halving where a breath's ratio is held.
+    halving,
+    hand_calls::halving
+);
+
 extern "C" {
     fn gmp_start();
     fn gmp_round(kind: u64, k: u64, n: u64, d: u64) -> u64;
+    fn gmp_breath(rate: u64, onset: u32, peak: u32, next: u32) -> u64;
     fn gmp_binary(kind: u64, k: u64, code: u64, left: u64, right: u64) -> u64;
     fn gmp_compare(kind: u64, k: u64, left: u64, right: u64) -> u64;
     fn gmp_unary(kind: u64, k: u64, code: u64, operand: u64) -> u64;
@@ -189,8 +215,12 @@ extern "C" {
 /// A function that lists a recording through the C interface.
 pub type Night = unsafe extern "C" fn(*const u8, usize, *mut u8, *mut u64) -> u64;
 
-/// The archive's, then the hand-written one.
-pub const NIGHTS: [Night; 2] = [slash::raw::slash_night, hand_calls::slash_night];
+/// The archive's, then the hand-written one, then the one with halving.
+pub const NIGHTS: [Night; 3] = [
+    slash::raw::slash_night,
+    hand_calls::slash_night,
+    hand_calls::halving::slash_night,
+];
 
 /// What the function returns for a recording, and the length that it stores, 0 where it stores none.
 pub fn listed(night: Night, recording: &[u8], listing: &mut [u8]) -> (u64, usize) {
@@ -277,6 +307,10 @@ pub fn gmp(row: &Row, out: &mut [u64]) {
     unsafe {
         match row.operation {
             Round => each(inputs, out, |n, d| gmp_round(kind, k, n, d)),
+            Breath => each(inputs, out, |a, b| {
+                let (rate, [onset, peak, next]) = unpacked(a, b);
+                gmp_breath(rate, onset, peak, next)
+            }),
             Binary(code) | BinaryEach(code) => {
                 each(inputs, out, |a, b| gmp_binary(kind, k, code, a, b))
             }
@@ -301,6 +335,7 @@ pub fn gmp(row: &Row, out: &mut [u64]) {
 pub fn python_name(operation: Operation) -> (&'static str, u64) {
     match operation {
         Round => ("round", 0),
+        Breath => ("breath", 0),
         Binary(code) | BinaryEach(code) => ("binary", code),
         Compare => ("compare", 0),
         Unary(code) | UnaryEach(code) => ("unary", code),

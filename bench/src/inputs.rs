@@ -1,5 +1,8 @@
 //! The inputs that every contender gets: random, and the same in each run.
 
+/// The ticks of a sleeper's clock in a second.
+pub const RATE: u32 = 1024;
+
 /// A source of random numbers (xorshift).
 pub struct Source(u64);
 
@@ -55,11 +58,19 @@ impl Source {
         top | e << (k - 1) | r << e | (s ^ 1 << e)
     }
 
-    /// A recording like a sleeper's at a thousand ticks a second, whose clock starts again once.
+    /// The recording of so many of a sleeper's breaths.
     pub fn recording(&mut self, breaths: usize) -> Vec<u8> {
-        let mut onset = u32::MAX - 100_000_000;
-        let (mut period, mut recording) = (4000, Vec::new());
-        for _ in 0..breaths {
+        let mut recording = format!("rate\t{RATE}\n");
+        for [onset, peak, next] in self.marks(breaths) {
+            recording += &format!("{onset}\t{peak}\t{next}\n");
+        }
+        recording.into_bytes()
+    }
+
+    /// The marks of breaths like a sleeper's, of a clock that starts again once in a night.
+    pub fn marks(&mut self, breaths: usize) -> Vec<[u32; 3]> {
+        let (mut onset, mut period) = (u32::MAX - 100_000_000, 4000);
+        let mut breath = || {
             period = (period + self.below(401)).clamp(2700, 6200) - 200;
             let whole = period + self.below(300);
             let inward = whole * (330 + self.below(170)) / 1000;
@@ -69,14 +80,24 @@ impl Source {
             } else {
                 inward
             };
-            let (peak, next) = (
-                onset.wrapping_add(inward as u32),
-                onset.wrapping_add(whole as u32),
-            );
-            recording.extend_from_slice(format!("{onset}\t{peak}\t{next}\n").as_bytes());
-            onset = next;
-        }
-        recording
+            let marks = marks_of(onset, inward, whole);
+            onset = marks[2];
+            marks
+        };
+        (0..breaths).map(|_| breath()).collect()
+    }
+
+    /// A rate, which now and then is none, and the marks of a breath: void or not, short as likely as long, and
+    /// one time in 16 as long as a word's largest part or one tick longer.
+    pub fn any_breath(&mut self) -> (u32, [u32; 3]) {
+        let rate = self.between(0, 4097);
+        let end = 1 << self.below(21);
+        let whole = match self.below(16) {
+            0 => 32767 + self.below(2),
+            _ => self.below(end),
+        };
+        let (onset, inward) = (self.bits() as u32, self.below(whole + 2));
+        (rate, marks_of(onset, inward, whole))
     }
 
     /// A record of a breath like a sleeper's: 0.5 to 4 seconds in, 2 to 8 in all.
@@ -113,6 +134,11 @@ impl Source {
 const SMALLEST: u32 = 0x3a80_0000;
 const ONE: u32 = 0x3f80_0000;
 const END: u32 = 0x4480_0000;
+
+/// The marks of a breath with these durations.
+fn marks_of(onset: u32, inward: u64, whole: u64) -> [u32; 3] {
+    [0, inward, whole].map(|ticks| onset.wrapping_add(ticks as u32))
+}
 
 /// The bytes of a record: its kind and the bits of its numbers.
 pub fn record(parts: [u32; 3]) -> [u8; 12] {

@@ -5,13 +5,14 @@
 //! is the median of the rounds' ratios, so that what slows a round down slows both its parts.
 
 mod contenders;
+mod halving;
 mod inputs;
 mod loading;
 mod tables;
 mod timings;
 
 use contenders::{folded, listed, Operation, Row, NIGHTS};
-use inputs::Source;
+use inputs::{Source, RATE};
 use std::fmt::Write as _;
 use std::fs::{self, File};
 use std::path::{Path, PathBuf};
@@ -46,16 +47,19 @@ fn main() {
     let recording = source.recording(BREATHS);
     rows.extend(twisting_rows(&mut source));
     rows.extend(counting_rows());
+    rows.push(breath_row());
     let room = std::env::temp_dir().join(format!("bench-{}", std::process::id()));
     fs::create_dir_all(&room).expect("a temporary folder");
     print!("{}", head());
     let (times, python_ratios) = timed_rows(&rows, &room, Path::new(folder));
     print!("{}", table_of_calls(&rows, &times, &python_ratios));
     print!("{}", tables::section(&rows, &times));
+    let nights = timed_nights(&recording);
     print!(
         "{}",
-        table_of_nights(&recording, &room, Path::new(folder), night)
+        table_of_nights(&recording, &nights, &room, Path::new(folder), night)
     );
+    print!("{}", halving::section(&rows, &times, &nights));
     print!("{}", loading::section(&recording));
     print!("{}", timings::section(&mut source));
     fs::remove_dir_all(&room).expect("the temporary folder");
@@ -107,7 +111,13 @@ fn rows(source: &mut Source) -> Vec<Row> {
     rows
 }
 
-/// Their inputs are drawn from a source of their own, so that all others have those that they had.
+/// Its inputs are drawn from a source of its own, so that all others have those that they had.
+fn breath_row() -> Row {
+    let (name, operation) = ("one breath, stored", Operation::Breath);
+    row(&mut Source::new(4), name, operation, FIXED_15, FIXED_15)
+}
+
+/// Their inputs are drawn from a source of their own, for the same reason.
 fn counting_rows() -> Vec<Row> {
     let mut source = Source::new(3);
     [FIXED_15, FIXED_31, FLOATING_32]
@@ -142,14 +152,7 @@ fn row(
     form: (u64, u64),
     target: (u64, u64),
 ) -> Row {
-    // Ratios of tick counts in the recorder's format, of any numbers in the largest.
-    let ratio_bits = if form == FIXED_15 { 32 } else { 64 };
-    let inputs: Vec<(u64, u64)> = (0..CALLS)
-        .map(|_| match operation {
-            Operation::Round => source.ratio(ratio_bits),
-            _ => (source.word(form), source.word(form)),
-        })
-        .collect();
+    let inputs = inputs_of(source, operation, form);
     let (left, right) = inputs.iter().copied().unzip();
     let arrow = if form == target {
         String::new()
@@ -166,6 +169,21 @@ fn row(
         left,
         right,
     }
+}
+
+fn inputs_of(source: &mut Source, operation: Operation, form: (u64, u64)) -> Vec<(u64, u64)> {
+    if operation == Operation::Breath {
+        let packed = |marks| contenders::packed(RATE, marks);
+        return source.marks(CALLS).into_iter().map(packed).collect();
+    }
+    // Ratios of tick counts in the recorder's format, of any numbers in the largest.
+    let ratio_bits = if form == FIXED_15 { 32 } else { 64 };
+    (0..CALLS)
+        .map(|_| match operation {
+            Operation::Round => source.ratio(ratio_bits),
+            _ => (source.word(form), source.word(form)),
+        })
+        .collect()
 }
 
 fn format_name((kind, k): (u64, u64)) -> String {
@@ -201,20 +219,20 @@ fn timed<T>(call: impl FnOnce() -> T) -> (f64, T) {
 /// A contender: stores the results of a row's first inputs, as many as there are places.
 type Contender = fn(&Row, &mut [u64]);
 
-/// Those that take part in a row. They are three in each: whoever is first is slower, so that of two a ratio
+/// Those that take part in a row. They are three at least: whoever is first is slower, so that of two a ratio
 /// would be below the true one in every other round and above it in the rest, and their median anywhere
 /// between; with three the rounds in which neither was first are in the middle.
-fn contenders_of(row: &Row) -> [Contender; 3] {
-    let third = if row.operation.has_tables() {
-        contenders::tables
-    } else {
-        contenders::gmp
-    };
-    [contenders::archive, contenders::hand, third]
+fn contenders_of(row: &Row) -> Vec<Contender> {
+    use contenders::{archive, gmp, halving, hand, tables};
+    match row.operation {
+        Operation::Breath => vec![archive, hand, gmp, halving],
+        operation if operation.has_tables() => vec![archive, hand, tables],
+        _ => vec![archive, hand, gmp],
+    }
 }
 
-/// The nanoseconds a call of a row's contenders, round by round.
-type Times = [Vec<f64>; 3];
+/// The nanoseconds a call of a row's contenders, round by round; a fourth one's only in the row of a breath.
+type Times = [Vec<f64>; 4];
 
 /// The nanoseconds that a contender takes for a row, and the checksum of its results.
 fn timed_row(contender: Contender, row: &Row, out: &mut [u64]) -> (f64, u64) {
@@ -223,12 +241,22 @@ fn timed_row(contender: Contender, row: &Row, out: &mut [u64]) -> (f64, u64) {
     (spent, folded(out.iter().copied()))
 }
 
+/// Holds the hand-written Rust and another form of it to each other, on all inputs of a row.
+fn assert_row_alike(row: &Row, other: Contender) {
+    let [hand, other] = [contenders::hand, other].map(|contender| {
+        let mut out = vec![0; row.inputs.len()];
+        contender(row, &mut out);
+        out
+    });
+    assert!(hand == other, "{} by another form", row.name);
+}
+
 /// The times of each row, and how many times as long as the archive Python takes.
 fn timed_rows(rows: &[Row], room: &Path, folder: &Path) -> (Vec<Times>, Vec<Vec<f64>>) {
     let asked = room.join("rows");
     write_rows(rows, &asked);
     let mut out = vec![0; CALLS];
-    let mut times = vec![[(); 3].map(|()| Vec::new()); rows.len()];
+    let mut times = vec![Times::default(); rows.len()];
     // Python's times, each with the archive's of the same round.
     let mut python_ratios = vec![Vec::new(); rows.len()];
     for round in 0..ROUNDS {
@@ -267,7 +295,7 @@ fn table_of_calls(rows: &[Row], times: &[Times], python_ratios: &[Vec<f64>]) -> 
          others takes: below 1 it is faster, above 1 slower. A dash: it takes no part.\n\n\
          | | Archive, ns | Hand-written Rust | GMP | Python's Fraction |\n|---|--:|--:|--:|--:|\n",
     );
-    for ((row, [archive, hand, third]), python) in rows.iter().zip(times).zip(python_ratios) {
+    for ((row, [archive, hand, third, _]), python) in rows.iter().zip(times).zip(python_ratios) {
         let gmp = if row.operation.has_tables() {
             "–".to_string()
         } else {
@@ -284,6 +312,15 @@ fn table_of_calls(rows: &[Row], times: &[Times], python_ratios: &[Vec<f64>]) -> 
         .expect("a row");
     }
     table + "\n"
+}
+
+/// A line of a table apart: the archive's time and another algorithm's ratio to it.
+fn line_apart(name: &str, archive: &[f64], other: &[f64]) -> String {
+    format!(
+        "| {name} | {:.1} | {:.2} |\n",
+        median(archive),
+        ratio(archive, other)
+    )
 }
 
 /// Writes the first inputs of all rows for Python.
@@ -325,7 +362,13 @@ fn python_times(script: &Path, rows: &Path) -> Vec<(f64, u64)> {
 
 // Nights.
 
-fn table_of_nights(recording: &[u8], room: &Path, folder: &Path, night: &str) -> String {
+fn table_of_nights(
+    recording: &[u8],
+    nights: &NightTimes,
+    room: &Path,
+    folder: &Path,
+    night: &str,
+) -> String {
     let input = room.join("recording");
     fs::write(&input, recording).expect("the recording");
     // Without its last line feed it is refused behind all other lines.
@@ -335,18 +378,20 @@ fn table_of_nights(recording: &[u8], room: &Path, folder: &Path, night: &str) ->
         "## A night\n\nA recording of {BREATHS} breaths like a sleeper's, {} bytes.\n\n",
         recording.len()
     );
-    table += &in_memory(recording);
+    table += &in_memory(nights);
     table += &whole_processes(&input, &refused, &folder.join("night.py"), night);
     table
 }
 
-/// The library's function beside the hand-written one.
-fn in_memory(recording: &[u8]) -> String {
+/// The nanoseconds a breath of the library's function and the hand-written ones, round by round.
+type NightTimes = [Vec<f64>; NIGHTS.len()];
+
+fn timed_nights(recording: &[u8]) -> NightTimes {
     for bytes in [0, 1, recording.len() / 2, recording.len()] {
         assert_listed_alike(&recording[..bytes]);
     }
     let mut listing = vec![0; slash::raw::LISTING_BYTES];
-    let mut times = [Vec::new(), Vec::new()];
+    let mut times = NightTimes::default();
     for round in 0..ROUNDS {
         for at in in_turn(NIGHTS.len(), round) {
             let (spent, (status, _)) = timed(|| listed(NIGHTS[at], recording, &mut listing));
@@ -354,7 +399,11 @@ fn in_memory(recording: &[u8]) -> String {
             times[at].push(spent / BREATHS as f64);
         }
     }
-    let [archive, hand] = &times;
+    times
+}
+
+/// The library's function beside the hand-written one.
+fn in_memory([archive, hand, _]: &NightTimes) -> String {
     format!(
         "In memory: the archive's `slash_night` takes {:.1} ns a breath, hand-written Rust {:.2} times \
          as long. Both read the recording through before they store anything, as a refused one must \
@@ -364,14 +413,14 @@ fn in_memory(recording: &[u8]) -> String {
     )
 }
 
-/// Holds the two functions to each other: what they return, and all the bytes that they are lent.
+/// Holds the functions to each other: what they return, and all the bytes that they are lent.
 fn assert_listed_alike(recording: &[u8]) {
-    let answers = NIGHTS.map(|night| {
+    let [archive, others @ ..] = NIGHTS.map(|night| {
         let mut listing = vec![LENT_BYTE; slash::raw::LISTING_BYTES];
         let (status, length) = listed(night, recording, &mut listing);
         (status, length, folded(listing.into_iter().map(u64::from)))
     });
-    assert_eq!(answers[0], answers[1]);
+    assert_eq!(others, [archive; 2]);
 }
 
 /// A contender as a process: its name, its program and its arguments.

@@ -2,8 +2,7 @@
 
 use crate::contenders::{self, Operation::*, Row};
 use crate::inputs::Source;
-use crate::{median, ratio, row, Times};
-use std::fmt::Write as _;
+use crate::{assert_row_alike, line_apart, row, Times};
 
 /// The largest format of which every word is compared.
 const SMALL_K: u64 = 12;
@@ -22,16 +21,9 @@ pub fn section(rows: &[Row], times: &[Times]) -> String {
          and the last ones looked up in a table of 16 KB.\n\n\
          | | Archive, ns | Hand-written Rust with tables |\n|---|--:|--:|\n",
     );
-    for (row, [archive, _, tables]) in rows.iter().zip(times) {
+    for (row, [archive, _, tables, _]) in rows.iter().zip(times) {
         if row.operation.has_tables() {
-            writeln!(
-                section,
-                "| {} | {:.1} | {:.2} |",
-                row.name,
-                median(archive),
-                ratio(archive, tables)
-            )
-            .expect("a row");
+            section += &line_apart(&row.name, archive, tables);
         }
     }
     section + "\n"
@@ -55,21 +47,13 @@ fn assert_alike() {
                 row.right = row.left.clone();
                 row.inputs = row.left.iter().map(|&word| (word, word)).collect();
             }
-            assert_row_alike(&row);
+            assert_row_alike(&row, contenders::tables);
         }
     }
     for form in (2..=31).map(|k| (1, k)) {
-        assert_row_alike(&row(&mut source, "count", QuotientCount, form, form));
+        let row = row(&mut source, "count", QuotientCount, form, form);
+        assert_row_alike(&row, contenders::tables);
     }
-}
-
-fn assert_row_alike(row: &Row) {
-    let [hand, tables] = [contenders::hand, contenders::tables].map(|contender| {
-        let mut out = vec![0; row.left.len()];
-        contender(row, &mut out);
-        out
-    });
-    assert!(hand == tables, "{} with tables", row.name);
 }
 
 /// Every good word of a floating format.

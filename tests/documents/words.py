@@ -104,6 +104,9 @@ class Words:
         members = self.repo.members | self.repo.constants | self.wrapped
         if owner in self.repo.types and last in members:
             return True
+        # A caller in Rust knows the wrapper by the name of the crate `slash`.
+        if owner == "slash" and last in self.wrapped:
+            return True
         of = [f for f in self.repo.functions if f.name == last]
         return any(owner in (f.crate, f.owner, f.file.removesuffix(".rt")) for f in of)
 

@@ -2,6 +2,7 @@
 
 from functools import partial
 
+import night
 import operations
 import slash
 import timings
@@ -247,6 +248,26 @@ def answer_timings(length, out_length, *numbers):
     return lent_text(told, out)
 
 
+# Breaths. The tick marks come last: onset, peak and next onset.
+
+# The largest sum of 64 bits.
+LARGEST_SUM = 2**64 - 1
+
+
+def answer_breath(rate, *marks):
+    """h: the durations of a breath, and its word or that it is void."""
+    rate, breath = night.checked_rate(rate), night.durations(*marks)
+    word = "void" if night.is_void(rate, *breath) else "%x" % night.stored_word(*breath)
+    return "%d %d %s" % (*breath, word)
+
+
+def answer_sums(rate, inward, whole, *marks):
+    """a: sums of breathing in and of wholes with a breath more, or that 64 bits are full."""
+    ticks = night.summed_ticks(night.checked_rate(rate), *night.durations(*marks))
+    sums = night.added((inward, whole), ticks)
+    return "full" if max(sums) > LARGEST_SUM else "%d %d" % sums
+
+
 # The dispatcher.
 
 
@@ -293,6 +314,8 @@ ANSWERS = {
     "T": answer_twist_each,
     "e": answer_twist_vector,
     "i": answer_timings,
+    "h": answer_breath,
+    "a": answer_sums,
 }
 
 

@@ -1,6 +1,7 @@
-"""What the case modules share: request lines, edge words and random words."""
+"""What the case modules share: request lines, rates, edge words and random words."""
 
 import slash
+from night import MOST_SECONDS, RATES
 from slash import FIXED, FLOATING
 
 LARGEST = 2**64 - 1
@@ -43,6 +44,25 @@ def small_formats(largest_fixed, largest_floating):
 def chosen(rng, things):
     """One of the things at random."""
     return things[rng.getrandbits(16) % len(things)]
+
+
+# Rates.
+
+LARGEST_RATE = RATES[-1]
+
+# The ends of the rates, document 01's, and what is next to them.
+RATES_TRIED = [1, 2, 1023, 1024, 1025, LARGEST_RATE - 1, LARGEST_RATE]
+
+# Rates that no recording has; most of the large ones are good when bits are dropped.
+BAD_RATES = [
+    *(0, LARGEST_RATE + 1, 8192, 65536, 65537, 2**16 + 1024),
+    *(2**32, 2**32 + 1, 2**32 + 1024, 2**32 + LARGEST_RATE, 2**63, 2**63 + 1, LARGEST),
+]
+
+
+def longest_whole(rate):
+    """The most ticks of a breath that isn't overlong."""
+    return MOST_SECONDS * rate
 
 
 # Random numbers and words.

@@ -12,14 +12,15 @@ from functools import lru_cache
 from itertools import combinations, permutations, product
 
 import cases_night
+import cases_rates
 import listings
 import night
 import slash
 from answers import stop_text
 from cases_common import chosen, edge_words, random_part
-from cases_night import EXAMPLE, EXAMPLE_LISTING, LONGEST_RECORDING, line, once
+from cases_night import EXAMPLE, EXAMPLE_LISTING, LONGEST_RECORDING, RATE, line, once
 from listings import TOTAL, VOID
-from night import MOST_LINES, STORED
+from night import MOST_BREATHS, STORED
 
 # A request: the places of both lists lent, the void breaths that begin the text, and the pieces
 # that make the rest of it.
@@ -187,7 +188,7 @@ GOOD_WORDS = [
 
 
 def listings_of_recordings():
-    """What is listed for recordings of cases_night.py, refused ones among them, and a recording."""
+    """What is listed for recordings of the cases, refused ones among them, and a recording."""
     recordings = [cases_night.recording(pieces) for group in RECORDED for pieces in group()]
     for text in dict.fromkeys(map(night.listing, recordings)):
         yield loaded(text)
@@ -203,6 +204,9 @@ RECORDED = [
     cases_night.large_ratios,
     cases_night.first_stop,
     cases_night.empty_night,
+    cases_rates.overlong_and_good,
+    cases_rates.void_for_each_reason,
+    cases_rates.rates_alone,
 ]
 
 
@@ -232,7 +236,7 @@ def empty_night_loaded():
     """The listing of no breaths: lists without a place are long enough, and others keep theirs."""
     for numbers, words in product((0, 1, 2, 5, 12, 13), repeat=2):
         yield loaded(VOID_TOTAL, numbers=numbers, words=words)
-    for numbers, words in ((MOST_PLACES, 0), (0, MOST_PLACES), (MOST_LINES, MOST_PLACES)):
+    for numbers, words in ((MOST_PLACES, 0), (0, MOST_PLACES), (MOST_BREATHS, MOST_PLACES)):
         yield loaded(VOID_TOTAL, numbers=numbers, words=words)
 
 
@@ -393,7 +397,7 @@ def shapeless_count_of_fields():
 def shapeless_lines():
     """Whole lines of other bytes, in place of each line and before each."""
     lines = [b"\n", b" \n", b"\t\n", b"\t\t\t\n", b"\0\n", b"\r\n", b"x\n", b"all\n", b"1\n"]
-    lines += [b"refused\t10\t2\n", b"0\t277\t642\n", b"# 1\n", b"\xff\n", b"1 00000000 - -\n"]
+    lines += [b"refused\t10\t2\n", b"0\t277\t642\n", b"# 1\n", b"\xff\n", b"1 00000000 - -\n", RATE]
     for place, text in product(PLACES, lines):
         yield loaded(with_row(place, text))
         if place < len(ROWS):
@@ -480,7 +484,7 @@ def behind_void_total():
     for text in (*BEHIND_TOTAL, *BYTES_BEHIND_TOTAL):
         yield loaded(VOID_TOTAL, text)
     for text in (row(1, VOID), VOID_TOTAL, b"\n", b"7"):
-        yield Load(2, 2, 0, [(1, VOID_TOTAL), (MOST_LINES, text)])
+        yield Load(2, 2, 0, [(1, VOID_TOTAL), (MOST_BREATHS, text)])
 
 
 # Lines that go behind a total, good ones, ones that earn each stop, and listings.
@@ -677,7 +681,7 @@ def huge_lines():
 
 def most_breaths():
     """65,536 breaths, and one fewer, with lists about as long."""
-    most = MOST_LINES
+    most = MOST_BREATHS
     lengths = [(most, most), (MOST_PLACES, most + 1), (most - 1, most), (most, most - 1), (0, 0)]
     for numbers, words in lengths:
         yield loaded(VOID_TOTAL, numbers=numbers, words=words, voids=most)
@@ -688,18 +692,18 @@ def most_breaths():
 
 def too_many_breaths():
     """Breath 65,537 and others behind it, and no total."""
-    for voids in (MOST_LINES, MOST_LINES + 1, MOST_PLACES):
+    for voids in (MOST_BREATHS, MOST_BREATHS + 1, MOST_PLACES):
         yield loaded(numbers=MOST_PLACES, words=MOST_PLACES, voids=voids)
-    yield loaded(VOID_TOTAL, numbers=MOST_PLACES, words=MOST_PLACES, voids=MOST_LINES + 1)
+    yield loaded(VOID_TOTAL, numbers=MOST_PLACES, words=MOST_PLACES, voids=MOST_BREATHS + 1)
     yield loaded(VOID_TOTAL, numbers=3, words=4, voids=MOST_PLACES)
 
 
 def bad_last_rows():
     """Each fault at lines 65,535 to 65,537, a total behind it, and lines that aren't ended."""
-    for voids in (MOST_LINES - 2, MOST_LINES - 1, MOST_LINES):
+    for voids in (MOST_BREATHS - 2, MOST_BREATHS - 1, MOST_BREATHS):
         number = voids + 1
         texts = [b"\n", b"0" + row(number, VOID), line(number, "00010002", "1/2", "50.1")]
-        texts += [row(other, VOID) for other in (voids, number % MOST_LINES, number + 2**32)]
+        texts += [row(other, VOID) for other in (voids, number % MOST_BREATHS, number + 2**32)]
         for text in [*(text + VOID_TOTAL for text in texts), row(number, VOID)[:-1]]:
             yield loaded(text, numbers=13, words=MOST_PLACES, voids=voids)
 
@@ -707,9 +711,9 @@ def bad_last_rows():
 def bad_last_totals():
     """Behind 65,536 breaths a total of each fault, and lines behind a good total."""
     totals = [b"all\n", VOID_TOTAL[:-1], b"all\t00000002\t-\t-\n", b"all\t00000001\t0/1\t0.1\n"]
-    behind = [b"\n", b"x", VOID_TOTAL, row(MOST_LINES + 1, VOID), row(MOST_LINES + 2, VOID)]
+    behind = [b"\n", b"x", VOID_TOTAL, row(MOST_BREATHS + 1, VOID), row(MOST_BREATHS + 2, VOID)]
     for text in [*totals, *(VOID_TOTAL + text for text in behind)]:
-        yield loaded(text, numbers=MOST_LINES, words=MOST_LINES, voids=MOST_LINES)
+        yield loaded(text, numbers=MOST_BREATHS, words=MOST_BREATHS, voids=MOST_BREATHS)
 
 
 # 9. Random listings.

@@ -2,6 +2,7 @@
 
 A recipe is pieces parted by one space, each COUNT*HEX: the bytes of HEX, COUNT
 times. A comment line before each recipe names its case and is printed as it is.
+The cases on rates and on overlong breaths are in cases_rates.py.
 """
 
 import random
@@ -10,7 +11,7 @@ from math import gcd
 
 import night
 import slash
-from cases_common import chosen
+from cases_common import LARGEST_RATE, chosen, longest_whole
 
 # The most bytes of a recipe and of a recording.
 LONGEST_RECIPE = 4000
@@ -20,8 +21,13 @@ LONGEST_RECORDING = 2300000
 LONGEST_SHOWN = 2000
 END_SHOWN = 64
 
-# The recording that document 01 prints, and its listing.
-EXAMPLE = b"0\t277\t642\n4294967290\t10\t34\n100\t100\t100\n"
+# The rate where no other is called for, and its line.
+USUAL_RATE = 1024
+RATE = b"rate\t1024\n"
+
+# The recording that document 01 prints, without and with CR 7's rate line, and its listing.
+EXAMPLE_BREATHS = b"0\t277\t642\n4294967290\t10\t34\n100\t100\t100\n"
+EXAMPLE = RATE + EXAMPLE_BREATHS
 EXAMPLE_LISTING = (
     b"1\t01150282\t277/642\t43.1\n"
     b"2\t00020005\t2/5\t40.0\n"
@@ -32,6 +38,12 @@ EXAMPLE_LISTING = (
 # A breath that goes before what is refused, and one that goes after.
 GOOD = b"0\t277\t642\n"
 LATER = b"642\t800\t1000\n"
+
+# The most ticks of a breath that isn't overlong.
+LONGEST_WHOLE = longest_whole(LARGEST_RATE)
+
+# The largest denominator of a stored ratio.
+LARGEST_HELD = slash.largest_denominator(night.STORED)
 
 # A tie is a ratio whose percentage is halfway between two tenths. These are the
 # denominators of the ties in lowest terms.
@@ -45,23 +57,26 @@ SHOWN_RATIOS = 50
 
 
 def longer_than_any():
-    """A recording of 65,537 of the widest lines, void breaths among them: more than decides a listing."""
+    """A rate line and 65,537 of the widest lines, void breaths of each kind among them.
+
+    It is more than decides a listing.
+    """
     onsets = (1_000_000_000 + 50_000 * number for number in range(65_537))
     breaths = (
         (onset, onset + number * 7_919 % 20_000, onset + number * 104_729 % 30_000)
         for number, onset in enumerate(onsets)
     )
-    return b"".join(line(*breath) for breath in breaths)
+    return rate_line(200) + b"".join(line(*breath) for breath in breaths)
 
 
-def recipes():
+def requests():
     """The lines of the test program's input: a comment and a recipe for each case."""
     return asked(GROUPS, recipe)
 
 
 def answers():
     """What the test program prints, as bytes, for each of those lines."""
-    return answered(GROUPS, lambda pieces: shown(night.listing(recording(pieces))))
+    return answered(GROUPS, listed)
 
 
 def asked(groups, request):
@@ -105,6 +120,11 @@ def recording(pieces):
     return made
 
 
+def listed(pieces):
+    """What is shown of the listing of the recording that the pieces make."""
+    return shown(night.listing(recording(pieces)))
+
+
 def shown(listing):
     """A short listing itself; of a long one the length, the checksum and the end."""
     if len(listing) <= LONGEST_SHOWN:
@@ -129,9 +149,19 @@ def line(*fields):
     return "\t".join(map(str, fields)).encode("ascii") + b"\n"
 
 
+def rate_line(rate):
+    """The line that opens a recording at this rate."""
+    return line("rate", rate)
+
+
 def breath(inward, whole, onset=0):
     """A line whose breathing in and whole breath are these, modulo 2^32."""
-    return line(onset, (onset + inward) % night.CLOCK, (onset + whole) % night.CLOCK)
+    return line(*marks(inward, whole, onset))
+
+
+def marks(inward, whole, onset):
+    """The tick marks of a breath with these durations, its onset modulo 2^32 as well."""
+    return [(onset + ticks) % night.CLOCK for ticks in (0, inward, whole)]
 
 
 def parted(n, d, times=1):
@@ -144,16 +174,26 @@ def once(*texts):
     return [(1, b"".join(texts))]
 
 
+def rated(*texts, rate=USUAL_RATE):
+    """The one piece of these bytes behind a rate line."""
+    return once(rate_line(rate), *texts)
+
+
+def rated_pieces(*pieces, rate=USUAL_RATE):
+    """These pieces behind that of a rate line."""
+    return [(1, rate_line(rate)), *pieces]
+
+
 def alone_and_between(text):
-    """A line by itself, and between good ones."""
-    yield once(text)
-    yield once(GOOD, text, LATER)
+    """A line by itself behind the rate line, and between good ones."""
+    yield rated(text)
+    yield rated(GOOD, text, LATER)
 
 
 def shown_ratios(ratios):
     """Recordings of these ratios, each with a listing that is shown itself."""
     for start in range(0, len(ratios), SHOWN_RATIOS):
-        case = once(*(breath(*ratio) for ratio in ratios[start : start + SHOWN_RATIOS]))
+        case = rated(*(breath(*ratio) for ratio in ratios[start : start + SHOWN_RATIOS]))
         assert len(night.listing(recording(case))) <= LONGEST_SHOWN
         yield case
 
@@ -178,14 +218,13 @@ def ties_over(d):
     return [(n, d) for n in range(1, d) if gcd(n, d) == 1]
 
 
-def next_to(n, d):
-    """The held ratios next below and next above n/d, which is in lowest terms.
+def next_to(n, d, largest=LARGEST_HELD):
+    """The ratios next below and next above n/d, which is in lowest terms, over at most the largest.
 
     The products across differ by 1, and of such ratios those with the largest
     denominators are next to n/d. With s such a denominator: below n/d, s times n
     is 1 more than a multiple of d; above it, 1 less.
     """
-    largest = slash.largest_denominator(night.STORED)
     inverse = pow(n, -1, d)
     below = largest - (largest - inverse) % d
     above = largest - (largest + inverse) % d
@@ -198,45 +237,52 @@ def next_to(n, d):
 def the_example():
     """Document 01's recording, and its lines alone."""
     yield once(EXAMPLE)
-    for text in EXAMPLE.splitlines(keepends=True):
-        yield once(text)
+    for text in EXAMPLE_BREATHS.splitlines(keepends=True):
+        yield rated(text)
 
 
 def wrapped_clocks():
     """Clocks that start again before the peak, after it, and next to both."""
     last = night.LARGEST_TICK
     for onset in (0, 1, last, last - 1, last - 277, last - 276, last - 642, last - 641):
-        yield once(breath(277, 642, onset))
-    yield once(*(breath(277, 642, last - step) for step in range(0, 700, 50)))
-    yield once(line(last, 0, 1), line(last, last, 0), line(last - 1, last, 0))
-    yield once(line(2**31, 0, 2**31 - 1), line(2**31, 2**31 - 1, 2**31 - 1))
+        yield rated(breath(277, 642, onset))
+    yield rated(*(breath(277, 642, last - step) for step in range(0, 700, 50)))
+    yield rated(line(last, 0, 1), line(last, last, 0), line(last - 1, last, 0))
+    yield rated(line(2**31, 0, 2**31 - 1), line(2**31, 2**31 - 1, 2**31 - 1))
+    # Tick marks on both sides of 2^31, and the longest breaths.
+    half = LONGEST_WHOLE // 2
+    for onset in (2**31 - 1, 2**31 - half, last, last - half, last - LONGEST_WHOLE):
+        yield rated(breath(half, LONGEST_WHOLE, onset), rate=LARGEST_RATE)
 
 
 def void_breaths():
     """A whole of 0, and a breathing in longer than the whole."""
     last = night.LARGEST_TICK
     for onset in (0, 100, last):
-        yield once(breath(0, 0, onset))
-        yield once(breath(5, 0, onset))
-        yield once(breath(6, 5, onset))
-        yield once(breath(last, last - 1, onset))
-    yield once(breath(last, 0), breath(1, 0), breath(2, 1), breath(0, 0, last))
+        yield rated(breath(0, 0, onset))
+        yield rated(breath(5, 0, onset))
+        yield rated(breath(6, 5, onset))
+        yield rated(breath(last, last - 1, onset))
+    yield rated(breath(last, 0), breath(1, 0), breath(2, 1), breath(0, 0, last))
 
 
 def void_and_good():
     """Void breaths among good ones, which alone are summed."""
-    yield once(breath(0, 0), GOOD, breath(9, 8), LATER, breath(7, 0))
-    yield once(GOOD, breath(night.LARGEST_TICK, 1))
-    yield once(breath(night.LARGEST_TICK, 1), GOOD)
-    yield once(breath(3, 2), breath(2, 3), breath(1, 0))
+    yield rated(breath(0, 0), GOOD, breath(9, 8), LATER, breath(7, 0))
+    yield rated(GOOD, breath(night.LARGEST_TICK, 1))
+    yield rated(breath(night.LARGEST_TICK, 1), GOOD)
+    yield rated(breath(3, 2), breath(2, 3), breath(1, 0))
 
 
 def ends_of_the_ratio():
     """Breathing in of 0 and of the whole breath."""
-    for whole in (1, 2, 642, 32767, 32768, 65535, 2**31, night.LARGEST_TICK):
-        yield once(breath(0, whole), breath(whole, whole), breath(whole - 1, whole))
-        yield once(breath(0, whole, 7), breath(0, whole, 9))
-        yield once(breath(whole, whole, 7), breath(whole, whole, 9))
+    for whole in (1, 2, 642, 32767, 32768, 65535, LONGEST_WHOLE - 1, LONGEST_WHOLE):
+        for texts in (
+            (breath(0, whole), breath(whole, whole), breath(whole - 1, whole)),
+            (breath(0, whole, 7), breath(0, whole, 9)),
+            (breath(whole, whole, 7), breath(whole, whole, 9)),
+        ):
+            yield rated(*texts, rate=LARGEST_RATE)
 
 
 def percentages():
@@ -246,18 +292,31 @@ def percentages():
     ratios += [(1, 1999), (1, 80), (79, 80), (1, 400), (399, 400), (32766, 32767)]
     ratios += [(1, 32767), (1, 3), (2, 3), (1, 1), (0, 1), (1, 1000), (19, 20)]
     for n, d in ratios:
-        yield once(breath(n, d))
-        yield once(breath(n, d), breath(1, 2))
-    yield once(*(breath(n, d) for n, d in ratios))
+        yield rated(breath(n, d))
+        yield rated(breath(n, d), breath(1, 2))
+    yield rated(*(breath(n, d) for n, d in ratios))
+
+
+# Ties whose nearest ratios of ticks are tried.
+TRIED_TIES = [(1, 16), (3, 16), (1, 2000), (1999, 2000), (7, 16), (1, 80)]
 
 
 def percentages_of_the_fraction():
     """Ticks just below a half percentage whose fraction is at it, and just above."""
-    for n, d in ((1, 16), (3, 16), (1, 2000), (1999, 2000), (7, 16), (1, 80)):
-        times = night.LARGEST_TICK // d
-        for off in (-1, 0, 1):
-            yield once(breath(times * n + off, times * d))
-            yield once(breath(times * n + off, times * d), breath(0, 0))
+    for n, d in TRIED_TIES:
+        times = LONGEST_WHOLE // d
+        below, above = next_to(n, d, LONGEST_WHOLE)
+        for ratio in (below, (times * n, times * d), above):
+            yield rated(breath(*ratio), rate=LARGEST_RATE)
+            yield rated(breath(*ratio), breath(0, 0), rate=LARGEST_RATE)
+
+
+def percentages_of_the_next_fraction():
+    """Ticks so far below a half percentage that their fraction isn't at it, and so far above."""
+    for n, d in TRIED_TIES:
+        times = LONGEST_WHOLE // d
+        for off in (-1, 1):
+            yield rated(breath(times * n + off, times * d), rate=LARGEST_RATE)
 
 
 def every_tie():
@@ -270,36 +329,50 @@ def next_to_every_tie():
     yield from shown_ratios([ratio for tie in ties() for ratio in next_to(*tie)])
 
 
+# So often are breaths summed that a tick more leaves the fraction at a tie; and so often that the
+# sums pass 2^32.
+MANY = 150
+VERY_MANY = 9000
+
+
 def sums_at_ties():
     """Breaths that are no ties: their sums are one, or are a tick off and rounded to it."""
     for n, d in few_ties():
-        yield once(parted(n, d))
-        yield once(breath(0, 0), parted(n, d), breath(d, n))
-        # Sums that pass 2^32.
-        large = (3, parted(n, d, night.LARGEST_TICK // d))
-        yield [large]
-        yield [large, (1, breath(0, 1))]
-        yield [large, (1, breath(1, 1))]
+        yield rated(parted(n, d))
+        yield rated(breath(0, 0), parted(n, d), breath(d, n))
+        yield from sums_about(n, d, MANY)
+    # Sums that pass 2^32.
+    for d in (TIE_DENOMINATORS[0], TIE_DENOMINATORS[-1]):
+        yield from sums_about(*ties_over(d)[-1], VERY_MANY)
+
+
+def sums_about(n, d, times):
+    """So many times two breaths, as long as can be, whose sums are a tie; and a tick more."""
+    large = times, parted(n, d, LONGEST_WHOLE // d)
+    yield rated_pieces(large, rate=LARGEST_RATE)
+    yield rated_pieces(large, (1, breath(0, 1)), rate=LARGEST_RATE)
+    yield rated_pieces(large, (1, breath(1, 1)), rate=LARGEST_RATE)
 
 
 def sums_next_to_ties():
     """Breaths whose sums are the held ratios next below and next above a tie."""
     for tie in few_ties():
         for ratio in next_to(*tie):
-            yield once(parted(*ratio))
+            yield rated(parted(*ratio))
 
 
 def large_ratios():
     """Ratios that 15 bits can't hold: rounded and marked."""
-    last = night.LARGEST_TICK
+    last = LONGEST_WHOLE
     ratios = [(1, 32768), (32767, 32768), (1, 65536), (1, 65535), (1, last)]
     ratios += [(32768, 32769), (16384, 32769), (40000, 65537), (last - 1, last)]
-    ratios += [(2971215073, 4294967291), (1836311903, 2971215073), (2**31, last)]
-    ratios += [(14930352, 24157817), (10610209857723 % 2**32, last), (65537, last)]
+    # Fibonacci numbers among others.
+    ratios += [(196418, 317811), (121393, 196418), (250001, 404501), (last // 2 + 1, last)]
+    ratios += [(300007, 485411), (123457, last - 1), (65537, last - 1)]
     for n, d in ratios:
-        yield once(breath(n, d))
-        yield once(breath(n, d, 123456789), breath(1, 3))
-    yield once(*(breath(n, d) for n, d in ratios))
+        yield rated(breath(n, d), rate=LARGEST_RATE)
+        yield rated(breath(n, d, 123456789), breath(1, 3), rate=LARGEST_RATE)
+    yield rated(*(breath(n, d) for n, d in ratios), rate=LARGEST_RATE)
 
 
 # 2. Lines and fields.
@@ -308,6 +381,7 @@ def large_ratios():
 def widest_lines():
     """32 bytes before the line feed, good or not, and 33."""
     for wide in (
+        line(1000000000, 1000050000, 1000099999),
         line(1000000000, 1500000000, 2999999999),
         line(4294967295, 4294967294, 4294967293),
         line(4294967295, 4294967295, 4294967295),
@@ -333,17 +407,17 @@ def widest_lines():
 def line_feed_missing():
     """A last line that isn't ended, with and without good lines before."""
     for text in (b"0\t277\t642", b"0", b"\t", b"0\t1", b"x", b"0" * 32, b"0" * 33):
-        yield once(text)
-        yield once(GOOD, text)
-        yield once(GOOD, LATER, GOOD, text)
+        yield rated(text)
+        yield rated(GOOD, text)
+        yield rated(GOOD, LATER, GOOD, text)
 
 
 def empty_lines():
     """Line feeds with nothing before them."""
     yield from alone_and_between(b"\n")
-    yield once(b"\n\n")
-    yield once(GOOD, b"\n")
-    yield once(GOOD, LATER, b"\n\n\n")
+    yield rated(b"\n\n")
+    yield rated(GOOD, b"\n")
+    yield rated(GOOD, LATER, b"\n\n\n")
 
 
 def fields_in_number():
@@ -386,9 +460,12 @@ def largest_numbers():
     numbers += [2**64, 2**64 + 1, 2**65 + 7, 10**19, 10**20, 10**27, 10**28 - 1]
     for number in numbers:
         for changed in in_each_field(b"%d" % number):
-            yield once(GOOD, changed, LATER)
+            yield rated(GOOD, changed, LATER)
     for changed in in_each_field(b"4294967296"):
-        yield once(changed)
+        yield rated(changed)
+    # As the next onset, the peak and the onset of breaths that aren't overlong.
+    for number in numbers[:2] + numbers[6:9]:
+        yield rated(*(breath(2, 4, number - step) for step in (4, 2, 0)))
 
 
 def strange_bytes():
@@ -399,18 +476,18 @@ def strange_bytes():
     for byte in strange:
         for text in (byte, byte + b"7", b"7" + byte, b"7" + byte + b"7"):
             for changed in list(in_each_field(text))[:: 2 if len(byte) > 1 else 1]:
-                yield once(GOOD, changed, LATER)
-    yield once(b"0\t277\t642\r\n", LATER)
-    yield once(b"\xef\xbb\xbf", GOOD)
-    yield once(GOOD, b"\0")
+                yield rated(GOOD, changed, LATER)
+    yield rated(b"0\t277\t642\r\n", LATER)
+    yield rated(b"\xef\xbb\xbf", GOOD)
+    yield rated(GOOD, b"\0")
 
 
 def every_byte():
     """Each byte by itself, as a line, and in place of the last digit."""
     for byte in range(256):
-        yield once(GOOD, bytes([byte]))
-        yield once(bytes([byte]), b"\n", GOOD)
-        yield once(b"0\t277\t64", bytes([byte]), b"\n", GOOD)
+        yield rated(GOOD, bytes([byte]))
+        yield rated(bytes([byte]), b"\n", GOOD)
+        yield rated(b"0\t277\t64", bytes([byte]), b"\n", GOOD)
 
 
 def first_stop():
@@ -418,14 +495,14 @@ def first_stop():
     bad = [b"0" * 33 + b"\n", b"0\n", b"0\t1\tx\n"]
     for first in bad:
         for second in bad:
-            yield once(GOOD, first, second)
-    yield once(b"x" * 33 + b"\n")
-    yield once(b"x\t" * 20 + b"\n")
-    yield once(b"x\ty\n")
-    yield once(b"x\ty\tz\tw\n")
-    yield once(b"x\ty")
-    yield once(b"x\ty\tz")
-    yield once(GOOD, b"0" * 40)
+            yield rated(GOOD, first, second)
+    yield rated(b"x" * 33 + b"\n")
+    yield rated(b"x\t" * 20 + b"\n")
+    yield rated(b"x\ty\n")
+    yield rated(b"x\ty\tz\tw\n")
+    yield rated(b"x\ty")
+    yield rated(b"x\ty\tz")
+    yield rated(GOOD, b"0" * 40)
 
 
 def empty_night():
@@ -434,13 +511,13 @@ def empty_night():
     yield [(0, b"")]
     yield [(1, b"")]
     yield [(0, GOOD)]
-    yield [(night.MOST_LINES, b"")]
+    yield [(night.MOST_BREATHS, b"")]
     yield [(0, GOOD), (0, b"\n")]
     yield [(0, b""), (0, b"x"), (7, b"")]
 
 
 def nearly_empty_night():
-    """A byte or a few, which aren't nothing: stops 9, 10 and 11."""
+    """A byte or a few, which aren't nothing: stops 9 and 19."""
     texts = [b"\n", b"\0", b"\t", b" ", b"\r", b"\v", b"\f", b"\x04", b"\x1a", b"\x7f", b"\xff"]
     texts += [b"-", b"0", b"\r\n", b"\n\r", b" \n", b"\t\t\n", b"\0\n", b"\x1a\n", b"\xef\xbb\xbf"]
     texts += [b"all", b"all\n", b"all\t00000000\t-\t-\n", b"-\t-\t-\n"]
@@ -454,59 +531,69 @@ def nearly_empty_night():
 
 
 def most_lines():
-    """65,536 lines, and one that begins after them."""
-    for text in (GOOD, breath(1, 16, 5), breath(6, 5), EXAMPLE_OF_FOUR):
-        times = night.MOST_LINES // text.count(b"\n")
-        yield [(times, text)]
-        yield [(times, text), (1, GOOD)]
-    full = (night.MOST_LINES, GOOD)
+    """65,536 breaths behind the rate line, and a line that begins after them."""
+    for text in (GOOD, breath(1, 16, 5), breath(6, 5), EXAMPLE_BREATHS + GOOD):
+        times = night.MOST_BREATHS // text.count(b"\n")
+        yield rated_pieces((times, text))
+        yield rated_pieces((times, text), (1, GOOD))
+    full = (night.MOST_BREATHS, GOOD)
     for text in (b"x", b"\n", b"0" * 40 + b"\n", b"0\t1\n", b"x\ty\tz\n", GOOD * 3):
-        yield [full, (1, text)]
-    yield [full, (0, GOOD)]
-
-
-EXAMPLE_OF_FOUR = EXAMPLE + GOOD
+        yield rated_pieces(full, (1, text))
+    yield rated_pieces(full, (0, GOOD))
 
 
 def bad_last_lines():
-    """Lines before and at the 65,536th that are refused."""
+    """Breaths before and at the 65,536th that are refused."""
     for text in (b"\n", b"x\ty\tz\n", b"0\t1\n", b"0" * 33 + b"\n", b"0\t1\t2"):
-        yield [(night.MOST_LINES - 1, GOOD), (1, text)]
-        yield [(night.MOST_LINES - 1, GOOD), (1, text), (1, GOOD)]
-    yield [(night.MOST_LINES - 2, GOOD), (1, b"\n"), (1, GOOD)]
-    yield [(40000, GOOD), (1, b"01\t2\t3\n"), (20000, GOOD)]
+        yield rated_pieces((night.MOST_BREATHS - 1, GOOD), (1, text))
+        yield rated_pieces((night.MOST_BREATHS - 1, GOOD), (1, text), (1, GOOD))
+    yield rated_pieces((night.MOST_BREATHS - 2, GOOD), (1, b"\n"), (1, GOOD))
+    yield rated_pieces((40000, GOOD), (1, b"01\t2\t3\n"), (20000, GOOD))
 
 
 def widest_recordings():
     """The longest recordings: 65,536 lines of the widest sort, and bytes beyond."""
-    wide = line(1000000000, 1500000000, 2999999999)
-    longest = line(4294967295, 4294967294, 4294967294)
-    for text in (wide, longest, line(1234567890, 2345678901, 3456789013)):
+    # Its lines are listed by the longest ones that there are.
+    wide = line(1000000000, 1000016384, 1000032767)
+    nearly_one = line(4294867295, 4294967294, 4294967295)
+    overlong = line(4294967295, 4294967294, 4294967294)
+    for text in (wide, nearly_one, overlong, line(1234567890, 1234617890, 1234669013)):
         assert len(text) == night.MOST_BYTES + 1
-        yield [(night.MOST_LINES, text)]
-    yield [(night.MOST_LINES, wide), (1, b"x")]
-    full = night.MOST_LINES * len(wide)
-    yield [(night.MOST_LINES, wide), (LONGEST_RECORDING - full, b"1")]
-    yield [(LONGEST_RECORDING, b"1")]
-    yield [(LONGEST_RECORDING, b"\n")]
-    yield [(LONGEST_RECORDING // len(GOOD), GOOD)]
+        yield rated_pieces((night.MOST_BREATHS, text))
+    yield rated_pieces((night.MOST_BREATHS, wide), (1, b"x"))
+    room = LONGEST_RECORDING - len(RATE)
+    left = room - night.MOST_BREATHS * len(wide)
+    yield rated_pieces((night.MOST_BREATHS, wide), (left, b"1"))
+    yield rated_pieces((room, b"1"))
+    yield rated_pieces((room, b"\n"))
+    yield rated_pieces((room // len(GOOD), GOOD))
 
 
 def largest_sums():
-    """Sums of 65,536 breaths as long as the clock allows, and sums that pass 2^32."""
-    last, most = night.LARGEST_TICK, night.MOST_LINES
-    yield [(most, breath(last, last, 1))]
-    yield [(most, breath(last - 1, last, 1))]
-    yield [(most, breath(0, last, 1))]
-    yield [(most // 2, breath(last, last, 1)), (most // 2, breath(0, last, 1))]
-    yield [(most - 1, breath(last, last, 1)), (1, breath(0, 1, 1))]
-    yield [(most - 1, breath(0, last, 1)), (1, breath(1, 1, 1))]
-    yield [(most // 3, breath(2**31, last, 1)), (most // 3, breath(1, last, 1))]
-    yield [(2, breath(2**31, 2**31 + 3, 1))]
-    yield [(1, breath(2**31, 2**31 + 3, 1)), (1, breath(2**31, 2**31 + 3, 1))]
-    yield [(3, breath(last, last, 1)), (5, breath(2**31, last, 1))]
-    yield [(most - 1, breath(6, 5)), (1, GOOD)]
-    yield [(most, breath(0, 0))]
+    """Sums of 65,536 breaths as long as there can be, and sums about 2^32."""
+    last, most = LONGEST_WHOLE, night.MOST_BREATHS
+    for pieces in (
+        [(most, breath(last, last, 1))],
+        [(most, breath(last - 1, last, 1))],
+        [(most, breath(0, last, 1))],
+        [(most // 2, breath(last, last, 1)), (most // 2, breath(0, last, 1))],
+        [(most - 1, breath(last, last, 1)), (1, breath(0, 1, 1))],
+        [(most - 1, breath(0, last, 1)), (1, breath(1, 1, 1))],
+        [(most // 3, breath(last // 2, last, 1)), (most // 3, breath(1, last, 1))],
+        [(3, breath(last, last, 1)), (5, breath(last // 2, last, 1))],
+        [(most - 1, breath(6, 5)), (1, GOOD)],
+        [(most, breath(0, 0))],
+    ):
+        yield rated_pieces(*pieces, rate=LARGEST_RATE)
+    for total in (2**32 - 1, 2**32, 2**32 + 1):
+        times, rest = divmod(total, last)
+        for pieces in (
+            [(times, breath(0, last)), (1, breath(0, rest))],
+            [(times, breath(1, last)), (1, breath(rest, rest))],
+            [(times, breath(last, last)), (1, breath(rest, rest))],
+            [(times, breath(last, last)), (1, breath(rest, rest)), (3, breath(0, last))],
+        ):
+            yield rated_pieces(*pieces, rate=LARGEST_RATE)
 
 
 def listings_about_as_long_as_shown():
@@ -519,48 +606,61 @@ def with_listing_of(length):
     """Pieces, of void breaths, zeros and thirds, whose listing has this length."""
     counts = [(v, z, t) for v in range(100, 116) for z in range(12) for t in range(9)]
     for voids, zeros, thirds in counts:
-        pieces = [(voids, breath(0, 0)), (zeros, breath(0, 1)), (thirds, breath(1, 3))]
+        breaths = (voids, breath(0, 0)), (zeros, breath(0, 1)), (thirds, breath(1, 3))
+        pieces = rated_pieces(*breaths)
         if len(night.listing(recording(pieces))) == length:
             return pieces
     raise AssertionError(length)
 
 
 def rows_numbered():
-    """Line numbers of each number of digits, good and refused."""
-    for count in (9, 10, 11, 99, 100, 101, 999, 1000, 1001, 9999, 10000, 10001):
-        yield [(count, GOOD)]
-        yield [(count, GOOD), (1, b"x\n")]
+    """Breath and line numbers of each number of digits, good and refused."""
+    for power in (10, 100, 1000, 10000):
+        for count in range(power - 3, power + 2):
+            yield rated_pieces((count, GOOD))
+            yield rated_pieces((count, GOOD), (1, b"x\n"))
 
 
 # 4. Random recordings.
 
 
+def random_rate(rng):
+    """A rate of a random bit count, the largest one among them."""
+    return min(LARGEST_RATE, 1 + rng.getrandbits(chosen(rng, range(1, 14))))
+
+
 def random_breath(rng):
-    """A line for a random breath: real-looking, of any ticks, or of few."""
-    sort = rng.getrandbits(2)
-    if sort == 0:
+    """A line for a random breath: real-looking, of any ticks, of few, or of about any whole."""
+    sort = rng.getrandbits(3)
+    if sort < 2:
         return breath(rng.getrandbits(8), 200 + rng.getrandbits(9), rng.getrandbits(32))
-    if sort == 1:
-        return line(*(rng.getrandbits(32) for _ in range(3)))
     if sort == 2:
+        return line(*(rng.getrandbits(32) for _ in range(3)))
+    if sort == 3:
         return line(*(rng.getrandbits(1 + rng.getrandbits(5)) for _ in range(3)))
-    whole = 1 + rng.getrandbits(1 + rng.getrandbits(4) * 2)
+    # Up to 2^19 ticks, somewhat more than are ever good.
+    whole = 1 + rng.getrandbits(chosen(rng, range(1, 20)))
     return breath(rng.getrandbits(32) % (whole + 1), whole, rng.getrandbits(32))
+
+
+def random_night(rng, count):
+    """The bytes of a recording of so many random breaths at a random rate."""
+    return rate_line(random_rate(rng)) + b"".join(random_breath(rng) for _ in range(count))
 
 
 def varied_night():
     """A recording of as many breaths as there can be, drawn from some of all these sorts."""
     rng = random.Random(83)
     breaths = [random_breath(rng) for _ in range(4000)]
-    return b"".join(chosen(rng, breaths) for _ in range(night.MOST_LINES))
+    drawn = (chosen(rng, breaths) for _ in range(night.MOST_BREATHS))
+    return rate_line(LARGEST_RATE - 1) + b"".join(drawn)
 
 
 def random_recordings():
     """Good recordings of a few breaths."""
     rng = random.Random(80)
     for _ in range(150):
-        count = 1 + rng.getrandbits(4)
-        yield once(*(random_breath(rng) for _ in range(count)))
+        yield once(random_night(rng, 1 + rng.getrandbits(4)))
 
 
 def following_breaths():
@@ -573,14 +673,14 @@ def following_breaths():
             whole = 200 + rng.getrandbits(9)
             texts.append(breath(rng.getrandbits(8), whole, onset))
             onset = (onset + whole) % night.CLOCK
-        yield once(*texts)
+        yield rated(*texts)
 
 
 def damaged_recordings():
     """Recordings with a few bytes changed, lost or put in."""
     rng = random.Random(82)
     for _ in range(250):
-        text = b"".join(random_breath(rng) for _ in range(1 + rng.getrandbits(3)))
+        text = random_night(rng, 1 + rng.getrandbits(3))
         for _ in range(1 + rng.getrandbits(1)):
             text = damaged(rng, text)
         yield once(text)
@@ -608,6 +708,7 @@ GROUPS = [
     ends_of_the_ratio,
     percentages,
     percentages_of_the_fraction,
+    percentages_of_the_next_fraction,
     every_tie,
     next_to_every_tie,
     sums_at_ties,

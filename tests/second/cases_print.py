@@ -15,7 +15,7 @@ from cases_common import chosen
 from cases_load import GOOD_WORDS, every_kind_of_word, random_listed, stored
 from cases_night import LONGEST_RECORDING, SHOWN_RATIOS
 from listings import VOID
-from night import MOST_LINES
+from night import MOST_BREATHS
 
 # The bytes of a word.
 BYTES = 8
@@ -143,19 +143,19 @@ def bad_words_at_each_place():
 def most_words():
     """65,535 breaths, 65,536 and more, with good totals and with bad ones."""
     good = stored(277, 642, 1)
-    for count in (MOST_LINES - 1, MOST_LINES, MOST_LINES + 1):
+    for count in (MOST_BREATHS - 1, MOST_BREATHS, MOST_BREATHS + 1):
         yield [repeated(count, good), repeated(1, VOID)]
         yield [repeated(count, VOID), repeated(1, BAD_WORDS[0])]
-    yield [repeated(MOST_LINES, VOID), repeated(1, good)]
+    yield [repeated(MOST_BREATHS, VOID), repeated(1, good)]
     yield [repeated(LONGEST_RECORDING // BYTES, VOID)]
 
 
 def bad_words_among_most():
     """Bad words at the first place, and at places 65,535 to 65,538."""
     for bad in BAD_WORDS[:1] + BAD_WORDS[-1:]:
-        for before in (0, MOST_LINES - 2, MOST_LINES - 1, MOST_LINES, MOST_LINES + 1):
+        for before in (0, MOST_BREATHS - 2, MOST_BREATHS - 1, MOST_BREATHS, MOST_BREATHS + 1):
             yield [repeated(before, VOID), repeated(1, bad), repeated(3, VOID)]
-    yield [repeated(1, BAD_WORDS[0]), repeated(MOST_LINES + 1, VOID)]
+    yield [repeated(1, BAD_WORDS[0]), repeated(MOST_BREATHS + 1, VOID)]
 
 
 def numbers_printed():

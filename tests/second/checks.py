@@ -12,7 +12,8 @@ import slash
 import vectors
 from answers import LENT, answer
 from cases_common import chosen, small_formats
-from cases_night import EXAMPLE, EXAMPLE_LISTING, next_to, ties
+from cases_night import EXAMPLE, EXAMPLE_LISTING, RATE, next_to, ties
+from checks_breaths import check_breaths
 from checks_counts import check_counts
 from checks_listings import check_listings
 from checks_source import check_source
@@ -134,22 +135,22 @@ RULE_ANSWERS = [
 ]
 
 # Recordings and their listings, worked out by hand from the rules of document 01 and
-# CRs 1 and 3 of 02.
+# CRs 1 and 3 of 02, behind CR 7's rate line.
 NIGHT_LISTINGS = [
     (EXAMPLE, EXAMPLE_LISTING),
     (b"", b"all\t00000000\t-\t-\n"),
-    (b"\n", b"refused\t10\t1\n"),
-    (b"0\t1\t2", b"refused\t9\t1\n"),
-    (b"0\t1\tx\n", b"refused\t11\t1\n"),
-    (b"0\t1\t16\nx\ty\n", b"1\t00010010\t1/16\t6.2\nrefused\t10\t2\n"),
-    (b"5\t5\t6\n", b"1\t00000001\t0/1\t0.0\nall\t00000001\t0/1\t0.0\n"),
-    (b"5\t6\t6\n", b"1\t00010001\t1/1\t100.0\nall\t00010001\t1/1\t100.0\n"),
-    (b"5\t7\t6\n", b"1\t00000000\t-\t-\nall\t00000000\t-\t-\n"),
+    (RATE + b"\n", b"refused\t10\t2\n"),
+    (RATE + b"0\t1\t2", b"refused\t9\t2\n"),
+    (RATE + b"0\t1\tx\n", b"refused\t11\t2\n"),
+    (RATE + b"0\t1\t16\nx\ty\n", b"1\t00010010\t1/16\t6.2\nrefused\t10\t3\n"),
+    (RATE + b"5\t5\t6\n", b"1\t00000001\t0/1\t0.0\nall\t00000001\t0/1\t0.0\n"),
+    (RATE + b"5\t6\t6\n", b"1\t00010001\t1/1\t100.0\nall\t00010001\t1/1\t100.0\n"),
+    (RATE + b"5\t7\t6\n", b"1\t00000000\t-\t-\nall\t00000000\t-\t-\n"),
     # 1/32768 is 0/1 and marked: bit 15.
-    (b"0\t1\t32768\n", b"1\t00008001\t0/1\t0.0\nall\t00008001\t0/1\t0.0\n"),
+    (RATE + b"0\t1\t32768\n", b"1\t00008001\t0/1\t0.0\nall\t00008001\t0/1\t0.0\n"),
     # 1/16 is 6.25 percent and prints 6.2; 3/16 is 18.75 and stays 18.8.
-    (b"0\t1\t16\n", b"1\t00010010\t1/16\t6.2\nall\t00010010\t1/16\t6.2\n"),
-    (b"0\t3\t16\n", b"1\t00030010\t3/16\t18.8\nall\t00030010\t3/16\t18.8\n"),
+    (RATE + b"0\t1\t16\n", b"1\t00010010\t1/16\t6.2\nall\t00010010\t1/16\t6.2\n"),
+    (RATE + b"0\t3\t16\n", b"1\t00030010\t3/16\t18.8\nall\t00030010\t3/16\t18.8\n"),
 ]
 
 
@@ -167,6 +168,7 @@ def check_all():
     check_twisting()
     check_timings()
     check_night()
+    check_breaths()
     check_ties()
     check_listings()
 
@@ -437,10 +439,10 @@ def check_night():
     """Asserts the listings that the paper prints, and those worked out from it."""
     for recording, expected in NIGHT_LISTINGS:
         assert night.listing(recording) == expected, (recording, expected)
-    most = night.listing(b"0\t1\t2\n" * 65536)
+    most = night.listing(RATE + b"0\t1\t2\n" * 65536)
     assert most.count(b"\n") == 65537 and most.endswith(b"all\t00010002\t1/2\t50.0\n")
-    beyond = night.listing(b"0\t1\t2\n" * 65536 + b"x")
-    assert beyond.count(b"\n") == 65537 and beyond.endswith(b"\nrefused\t8\t65537\n")
+    beyond = night.listing(RATE + b"0\t1\t2\n" * 65536 + b"x")
+    assert beyond.count(b"\n") == 65537 and beyond.endswith(b"\nrefused\t8\t65538\n")
 
 
 def check_ties():

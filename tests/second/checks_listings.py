@@ -5,6 +5,7 @@ import random
 import cases_load
 import cases_night
 import cases_print
+import cases_rates
 import listings
 import night
 import slash
@@ -13,7 +14,7 @@ from cases_night import EXAMPLE_LISTING
 from listings import VOID, load, print_words
 from slash import FRACTION, ZERO, Stop
 
-# The most bytes of the texts and recordings of the cases that are looked at here.
+# The most bytes of the texts and recordings of the cases that are looked at.
 LONGEST = 20_000
 
 # Good listings and the words they hold, worked out by hand from CRs 2 and 3.
@@ -215,10 +216,16 @@ def is_listed(word):
 
 def check_recordings():
     """Asserts that what an unstopped run printed is recovered, and a refusal has no shape."""
-    for _, pieces in cases_night.named_cases(cases_night.GROUPS):
+    for recording in short_recordings():
+        check_recording(recording)
+
+
+def short_recordings():
+    """The recordings of the cases that aren't too long to be looked at."""
+    for _, pieces in cases_night.named_cases([*cases_night.GROUPS, *cases_rates.GROUPS]):
         recording = cases_night.recording(pieces)
         if len(recording) <= LONGEST:
-            check_recording(recording)
+            yield recording
 
 
 def check_recording(recording):
@@ -228,18 +235,17 @@ def check_recording(recording):
     if b"refused" in listing:
         assert stop_of(load, listing) == (13, listing.count(b"\n")), recording
         return
-    breaths = [night.durations(line, number) for number, line in night.lines_of(recording)]
-    words = [stored_word(*breath) for breath in [*breaths, night.sums(breaths)]]
+    breaths = night.breaths_of(recording)
+    ticks = [night.summed_ticks(rate, *breath) for _, rate, breath in breaths]
+    sums = map(sum, zip(night.NO_TICKS, *ticks))
+    words = [stored_word(*each) for each in [*ticks, sums]]
     assert load(listing) == (words[:-1], words[-1]), recording
     assert print_words(words[:-1], words[-1]) == listing, recording
 
 
 def stored_word(inward, whole):
-    """The word that is stored for a breath or for sums."""
-    if night.is_void(inward, whole):
-        return VOID
-    pair, mark = slash.rounded(night.STORED, inward, whole)
-    return slash.pair_word(night.STORED, 0, pair, mark)
+    """The word that is stored for the ticks of a breath or for sums."""
+    return night.stored_word(inward, whole) if whole else VOID
 
 
 def check_texts():
@@ -355,6 +361,6 @@ def cases_named(beginnings):
 
 def check_group_names():
     """Asserts that no two groups of the program's cases have one name."""
-    modules = cases_night, cases_load, cases_print
+    modules = cases_night, cases_rates, cases_load, cases_print
     names = [group.__name__ for module in modules for group in module.GROUPS]
     assert len(names) == len(set(names))

@@ -209,7 +209,11 @@ def stop_by_bits(kind, first, second):
 
 def word_by_bits(kind, first, second):
     """The word of a good record's ratio."""
-    n, d = ratio_by_bits(kind, first, second)
+    return word_of_ratio(*ratio_by_bits(kind, first, second))
+
+
+def word_of_ratio(n, d):
+    """The word of n/d, by its convergents."""
     r, s = last_held(n, d)
     return r << 16 | (r * d != s * n) << 15 | s
 

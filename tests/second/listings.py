@@ -83,7 +83,7 @@ def in_sequence(name, columns, place):
     """
     if name == TOTAL:
         return place > 1 or columns == night.VOID_COLUMNS
-    return name == str(place) and place <= night.MOST_LINES
+    return name == str(place) and place <= night.MOST_BREATHS
 
 
 # The listing, printed.

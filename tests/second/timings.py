@@ -8,9 +8,8 @@ import struct
 from fractions import Fraction
 from math import isfinite
 
-import slash
 import vectors
-from night import STORED
+from night import stored_word
 from slash import Stop
 
 # Numbers of the stops that the other modules don't cause.
@@ -44,8 +43,7 @@ def ratio_word(ratio):
 
     A Fraction is in lowest terms; a common factor would scale the misses of all pairs alike.
     """
-    pair, mark = slash.rounded(STORED, ratio.numerator, ratio.denominator)
-    return slash.pair_word(STORED, 0, pair, mark)
+    return stored_word(ratio.numerator, ratio.denominator)
 
 
 # Records, read.

@@ -6,11 +6,13 @@ from itertools import chain
 
 import answers
 import cases_binary
+import cases_breaths
 import cases_counts
 import cases_files
 import cases_load
 import cases_night
 import cases_print
+import cases_rates
 import cases_source
 import cases_timings
 import cases_twisting
@@ -31,7 +33,11 @@ CASE_MODULES = [
     cases_twisting,
     cases_timings,
     cases_counts,
+    cases_breaths,
 ]
+
+# The same of the cases on recordings and listings, which have answers of their own.
+NIGHT_MODULES = [cases_night, cases_rates, cases_load, cases_print]
 
 
 def outputs():
@@ -42,9 +48,9 @@ def outputs():
     longest = cases_night.longer_than_any()
     yield "night", "stdin", [longest]
     yield "night", "stdout", [night.listing(longest)]
-    asked = cases_night.recipes(), cases_load.requests(), cases_print.requests()
+    asked = [module.requests() for module in NIGHT_MODULES]
     yield "night_cases", "stdin", as_lines(chain(*asked))
-    printed = cases_night.answers(), cases_load.answers(), cases_print.answers()
+    printed = [module.answers() for module in NIGHT_MODULES]
     yield "night_cases", "stdout", chain(*printed)
     listing = night.listing(cases_night.varied_night())
     yield "relist", "stdin", [listing]

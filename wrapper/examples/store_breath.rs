@@ -1,8 +1,11 @@
-//! Stores the ratio of one breath as a slash word and reads it back: 277 ticks in of 642. Then lists a
-//! night of three breaths, and asks for one that is refused.
+//! Stores one breath as a slash word, as the recorder does, and reads its ratio back: 277 ticks in of 642. Then
+//! lists a night of three breaths, and asks for what is refused.
 
 use slash::{Format, Stop};
 use std::cmp::Ordering;
+
+/// The recorder's clock ticks so many times a second.
+const RATE: u64 = 1024;
 
 /// Prints a fixed word and the fraction that it holds.
 fn print_fixed(name: &str, k: u64, word: u64) {
@@ -10,6 +13,14 @@ fn print_fixed(name: &str, k: u64, word: u64) {
     let (numerator, denominator) = (word >> (k + 1) & part, word & part);
     let mark = ["exact", "approximate"][(word >> k & 1) as usize];
     println!("{name}: word {word:08x}, {numerator}/{denominator}, {mark}");
+}
+
+/// Prints why a call was refused, and the word that was there before.
+fn print_refused(asked: &str, stop: Stop, word: u64) {
+    println!(
+        "{asked}: stop {}, the word is still {word:08x}",
+        stop.number
+    );
 }
 
 /// Prints the listing of a recording, or why it has none.
@@ -25,10 +36,15 @@ fn print_night(recording: &str) {
 fn main() -> Result<(), Stop> {
     // The recorder's format holds the ratio.
     let recorder = Format::fixed(15);
-    let breath = slash::round(recorder, 277, 642)?;
+    let breath = slash::breath(RATE, 0, 277, 642)?;
     print_fixed("fixed k = 15", 15, breath);
 
-    // Nine bits can't: the word keeps the best pair that they hold, and is marked.
+    // A next onset before its onset reads as a breath of nearly the whole clock: it is void, its word 0.
+    let overlong = slash::breath(RATE, 642, 919, 600)?;
+    let note = if overlong == 0 { ", void" } else { "" };
+    println!("an overlong breath: word {overlong:08x}{note}");
+
+    // Nine bits can't hold the ratio: the word keeps the best pair that they hold, and is marked.
     print_fixed("fixed k = 9", 9, slash::round(Format::fixed(9), 277, 642)?);
 
     // To a floating word and back.
@@ -51,13 +67,13 @@ fn main() -> Result<(), Stop> {
 
     // A refused call is an error.
     let stop = slash::round(recorder, 277, 0).expect_err("a denominator of 0");
-    println!(
-        "277/0: stop {}, the word is still {breath:08x}",
-        stop.number
-    );
+    print_refused("277/0", stop, breath);
+    let stop = slash::breath(0, 0, 277, 642).expect_err("a rate of 0");
+    print_refused("rate 0", stop, breath);
 
-    // A night, and one whose second line lacks a field.
-    print_night("0\t277\t642\n4294967290\t10\t34\n100\t100\t100\n");
-    print_night("0\t277\t642\n642\t900\n");
+    // A night, one whose second breath lacks a field, and one without its rate.
+    print_night("rate\t1024\n0\t277\t642\n4294967290\t10\t34\n100\t100\t100\n");
+    print_night("rate\t1024\n0\t277\t642\n642\t900\n");
+    print_night("0\t277\t642\n");
     Ok(())
 }

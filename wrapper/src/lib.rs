@@ -27,7 +27,7 @@ impl Format {
     }
 }
 
-/// A refused call: the stop's number, from 1 to 18 but never 12, and its place: the index in a vector or of
+/// A refused call: the stop's number, from 1 to 19 but never 12, and its place: the index in a vector or of
 /// a record, the line of a recording or a listing, else 0.
 #[derive(Clone, Copy, Debug, PartialEq, Eq)]
 pub struct Stop {
@@ -57,7 +57,7 @@ impl fmt::Display for Stop {
             5 => "undefined slash position",
             6 => "denominator 0 given to rounding",
             7 => "list shorter than the quotients or the breaths",
-            8 => "line 65,537 begins",
+            8 => "breath 65,537 begins",
             9 => "over 32 bytes before the line feed, or no line feed",
             10 => "not three fields",
             11 => "a field is not a tick mark",
@@ -67,6 +67,7 @@ impl fmt::Display for Stop {
             16 => "a byte count that is not a multiple of 12",
             17 => "a record of an unknown kind",
             18 => "a number that no record of its kind has",
+            19 => "a rate out of 1 to 4096, or a first line that is no rate line",
             _ => "unknown stop",
         };
         write!(f, "stop {} at {}: {meaning}", self.number, self.place)
@@ -276,10 +277,22 @@ pub fn untwist_each(form: Format, operand: &[u64], out: &mut [u64]) -> Result<()
     })
 }
 
-/// The listing of a night's recording, as the program `night` prints it; stops 8 to 11 with the line. A
-/// recording without a byte is a night with nothing in it: `all`, void.
+/// The word, in fixed k = 15, of one breath as the recorder stores it, 0 where it is void; stop 19 for a rate
+/// out of 1 to 4096.
 ///
-/// The line is the first bad one, from 1. Those before it are good: they have a listing of their own.
+/// Onset, peak and next onset are marks of a clock 32 bits wide that ticks `rate` times a second. A breath is
+/// void if its whole is 0, less than its in, or greater than 120 times the rate; otherwise in over whole is
+/// rounded as [`round`] does it.
+pub fn breath(rate: u64, onset: u32, peak: u32, next: u32) -> Result<u64, Stop> {
+    stored(|word| unsafe { raw::slash_breath(rate, onset, peak, next, word) })
+}
+
+/// The listing of a night's recording, as the program `night` prints it; stops 8 to 11 and 19 with the line.
+/// A recording without a byte is a night with nothing in it: `all`, void.
+///
+/// Any other opens with the line `rate`, a tab and the ticks a second, by which [`breath`] tells what is void.
+/// The line is the first bad one, the rate line being line 1. The lines before it are good: they have a
+/// listing of their own.
 pub fn night(recording: &[u8]) -> Result<Vec<u8>, Stop> {
     let mut listing = vec![0; raw::LISTING_BYTES];
     let (start, count) = (recording.as_ptr(), recording.len());

@@ -93,6 +93,7 @@ extern "C" {
         out: *mut u64,
         out_length: usize,
     ) -> u64;
+    pub fn slash_breath(rate: u64, onset: u32, peak: u32, next: u32, word: *mut u64) -> u64;
     pub fn slash_night(
         recording: *const u8,
         recording_length: usize,

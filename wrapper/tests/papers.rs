@@ -237,7 +237,7 @@ fn a_refused_vector_to_twist_leaves_what_is_lent() {
 }
 
 /// The paper's recording, and what is printed for it.
-const RECORDING: &str = "0\t277\t642\n4294967290\t10\t34\n100\t100\t100\n";
+const RECORDING: &str = "rate\t1024\n0\t277\t642\n4294967290\t10\t34\n100\t100\t100\n";
 const LISTING: &str = "1\t01150282\t277/642\t43.1\n2\t00020005\t2/5\t40.0\n3\t00000000\t-\t-\n\
                        all\t012502aa\t293/682\t43.0\n";
 
@@ -247,7 +247,68 @@ fn a_night_is_listed_as_the_paper_prints_it() {
     assert_eq!(listing.as_deref(), Ok(LISTING.as_bytes()));
 }
 
+#[test]
+fn a_breath_is_stored_as_it_is_listed() {
+    let recorded = |onset, peak, next| slash::breath(1024, onset, peak, next);
+    assert_eq!(recorded(0, 277, 642), Ok(0x0115_0282));
+    assert_eq!(recorded(4_294_967_290, 10, 34), Ok(0x0002_0005));
+    assert_eq!(recorded(100, 100, 100), Ok(0));
+    // In equal to whole, and a tick more; in of 0.
+    assert_eq!(recorded(7, 8, 8), Ok(0x0001_0001));
+    assert_eq!(recorded(7, 9, 8), Ok(0));
+    assert_eq!(recorded(7, 7, 8), Ok(1));
+    // A next onset before its onset.
+    assert_eq!(recorded(642, 919, 600), Ok(0));
+}
+
+#[test]
+fn a_whole_of_more_than_120_seconds_is_void() {
+    for rate in 1..=4096_u32 {
+        let longest = 120 * rate;
+        for onset in [0, 100, u32::MAX - 50, longest.wrapping_neg()] {
+            let stored = |whole: u32| {
+                let next = onset.wrapping_add(whole);
+                slash::breath(rate.into(), onset, next, next)
+            };
+            assert_eq!(stored(longest), Ok(0x0001_0001), "rate {rate}");
+            assert_eq!(stored(longest + 1), Ok(0), "rate {rate}");
+        }
+    }
+    // Left out of the total, too.
+    let listing = slash::night(b"rate\t1\n0\t60\t120\n0\t60\t121\n9\t10\t8\n");
+    let expected = "1\t00010002\t1/2\t50.0\n2\t00000000\t-\t-\n3\t00000000\t-\t-\n\
+                    all\t00010002\t1/2\t50.0\n";
+    assert_eq!(listing.as_deref(), Ok(expected.as_bytes()));
+}
+
+#[test]
+fn a_total_may_be_longer_than_120_seconds() {
+    let listing = slash::night(b"rate\t1\n0\t40\t120\n0\t40\t120\n").expect("a listing");
+    assert!(listing.ends_with(b"\nall\t00010003\t1/3\t33.3\n"));
+}
+
+#[test]
+fn a_bad_rate_leaves_the_word() {
+    let (number, place) = (19, 0);
+    for rate in [0, 4097, 8192, (1 << 32) + 1024, 1 << 63, u64::MAX] {
+        let mut word = 7;
+        // SAFETY: the pointer comes from a live number.
+        let returned = unsafe { raw::slash_breath(rate, 0, 277, 642, &mut word) };
+        assert_eq!((returned, word), (19, 7));
+        let stop = Err(Stop { number, place });
+        assert_eq!(slash::breath(rate, 0, 277, 642), stop);
+        // Of a void breath, too.
+        assert_eq!(slash::breath(rate, 0, 0, 0), stop);
+    }
+}
+
+const RATE: &[u8] = b"rate\t1024\n";
 const GOOD: &[u8] = b"0\t277\t642\n";
+
+/// The recording of the most breaths.
+fn longest_recording() -> Vec<u8> {
+    [RATE, &GOOD.repeat(65_536)].concat()
+}
 
 /// The listing of a night with nothing in it.
 const NOTHING: &[u8] = b"all\t00000000\t-\t-\n";
@@ -264,34 +325,78 @@ fn lent_to_night(recording: &[u8]) -> (u64, u64, Vec<u8>) {
 const LENT_LENGTH: u64 = 7;
 const LENT_BYTE: u8 = 0xa5;
 
+/// Asserts that the recording of these lines is refused, and that what is lent stays as it was.
+fn assert_recording_refused(number: u8, place: u64, lines: &[&[u8]]) {
+    let recording = lines.concat();
+    assert_eq!(slash::night(&recording), Err(Stop { number, place }));
+    let (returned, length, listing) = lent_to_night(&recording);
+    assert_eq!(returned, place * 256 + u64::from(number));
+    assert_eq!(length, LENT_LENGTH);
+    assert!(listing.iter().all(|&byte| byte == LENT_BYTE));
+}
+
 #[test]
 fn a_refused_recording_stops_at_its_line_and_leaves_what_is_lent() {
-    let refused = |number: u8, place: u64, lines: &[&[u8]]| {
-        let recording = lines.concat();
-        assert_eq!(slash::night(&recording), Err(Stop { number, place }));
-        let (returned, length, listing) = lent_to_night(&recording);
-        assert_eq!(returned, place * 256 + u64::from(number));
-        assert_eq!(length, LENT_LENGTH);
-        assert!(listing.iter().all(|&byte| byte == LENT_BYTE));
+    let refused = |number, place, breaths: &[&[u8]]| {
+        assert_recording_refused(number, place, &[&[RATE], breaths].concat());
     };
-    refused(8, 65_537, &[&GOOD.repeat(65_536), b"0"]);
     refused(
         9,
-        2,
+        3,
         &[GOOD, b"4294967295\t4294967295\t42949672950\n", GOOD],
     );
-    refused(9, 3, &[GOOD, GOOD, b"0\t277\t642"]);
-    refused(10, 1, &[b"0\t277\n", GOOD]);
-    refused(10, 2, &[GOOD, b"\n"]);
-    refused(10, 2, &[GOOD, b"0\t277\t642\t\n"]);
-    refused(11, 2, &[GOOD, b"0\t277\t4294967296\n"]);
-    refused(11, 2, &[GOOD, b"0\t0277\t642\n", b"\n"]);
-    refused(11, 1, &[b"0\t\t642\n"]);
+    refused(9, 4, &[GOOD, GOOD, b"0\t277\t642"]);
+    refused(10, 2, &[b"0\t277\n", GOOD]);
+    refused(10, 2, &[RATE, GOOD]);
+    refused(10, 3, &[GOOD, b"\n"]);
+    refused(10, 3, &[GOOD, b"0\t277\t642\t\n"]);
+    refused(11, 3, &[GOOD, b"0\t277\t4294967296\n"]);
+    refused(11, 3, &[GOOD, b"0\t0277\t642\n", b"\n"]);
+    refused(11, 2, &[b"0\t\t642\n"]);
+}
+
+#[test]
+fn breath_65537_stops_at_line_65538() {
+    let longest = longest_recording();
+    for begun in [&b"0"[..], b"\n", GOOD] {
+        assert_recording_refused(8, 65_538, &[&longest, begun]);
+    }
+}
+
+#[test]
+fn a_first_line_that_is_no_rate_line_is_refused() {
+    let no_rate_lines: [&[u8]; 15] = [
+        b"\n",
+        b"rate\n",
+        b"rate\t\n",
+        b"rate\t0\n",
+        b"rate\t4097\n",
+        b"rate\t007\n",
+        b"rate\t4294968320\n",
+        b"rate\t+1\n",
+        b"rate\t1024\t\n",
+        b"rate\t\t1024\n",
+        b"rate 1024\n",
+        b"Rate\t1024\n",
+        b"rate\t1024\r\n",
+        b"rate\t111111111111111111111111111\n",
+        GOOD,
+    ];
+    for first in no_rate_lines {
+        assert_recording_refused(19, 1, &[first]);
+        assert_recording_refused(19, 1, &[first, RATE, GOOD]);
+    }
+    // Over 32 bytes before the line feed, or none.
+    assert_recording_refused(9, 1, &[b"rate\t1111111111111111111111111111\n", GOOD]);
+    assert_recording_refused(9, 1, &[b"rate\t1024"]);
+    assert_recording_refused(9, 1, &[b"0"]);
 }
 
 #[test]
 fn a_night_with_nothing_in_it_is_listed_and_read_back() {
-    assert_eq!(slash::night(b"").as_deref(), Ok(NOTHING));
+    for recording in [&b""[..], RATE] {
+        assert_eq!(slash::night(recording).as_deref(), Ok(NOTHING));
+    }
     let loaded = Loaded {
         words: vec![],
         total: 0,
@@ -323,7 +428,14 @@ fn a_first_line_all_that_differs_from_it_is_refused() {
 #[test]
 fn a_listing_keeps_what_lies_beyond_it() {
     let widest = b"4294966653\t4294966930\t4294967295\n";
-    for recording in [vec![], GOOD.to_vec(), widest.to_vec(), GOOD.repeat(65_536)] {
+    let behind_rate = |breaths: &[u8]| [RATE, breaths].concat();
+    for recording in [
+        vec![],
+        behind_rate(b""),
+        behind_rate(GOOD),
+        behind_rate(widest),
+        longest_recording(),
+    ] {
         let expected = slash::night(&recording).expect("a listing");
         let (returned, length, listing) = lent_to_night(&recording);
         assert_eq!((returned, length), (0, expected.len() as u64));
@@ -340,7 +452,7 @@ fn a_listing_is_read_back() {
         total: 0x0125_02aa,
     };
     assert_eq!(slash::load(LISTING.as_bytes()), Ok(loaded));
-    let longest = slash::night(&GOOD.repeat(65_536)).expect("a listing");
+    let longest = slash::night(&longest_recording()).expect("a listing");
     let loaded = Loaded {
         words: vec![0x0115_0282; 65_536],
         total: 0x0115_0282,

@@ -2,6 +2,7 @@
 //!
 //! A refused call returns `Err` of its place times 256 plus the stop's number.
 
+pub mod breath;
 mod line;
 pub mod load;
 pub mod night;
@@ -222,15 +223,17 @@ fn cut(form: Form, mut n: u64, mut d: u64) -> (u64, u64, bool) {
     (r1, s1, false)
 }
 
-/// The same of n/d from 0 to 1, n not 0, into fixed k = 15: the pair, its denominator in the upper 16 bits, and
-/// whether it was changed. The first convergent is 0, so that d is divided by n to begin with; the divisions
-/// behind it take 32 bits. Both parts of a convergent are in one number: the denominator isn't the smaller
-/// one, so that it tells whether both are held.
+/// The mark of a word of fixed k = 15.
+const MARK: u32 = 1 << 15;
+
+/// The word of n/d from 0 to 1, n not 0, rounded into fixed k = 15. The first convergent is 0, so that d is
+/// divided by n to begin with; the divisions behind it take 32 bits. Both parts of a convergent are in one
+/// number, the denominator the upper one: it isn't the smaller, so that it tells whether both are held.
 #[inline]
-fn cut_proportion(n: u32, d: u64) -> (u32, bool) {
+fn proportion(n: u32, d: u64) -> u32 {
     let quotient = d / u64::from(n);
     if quotient > 32767 {
-        return (1 << 16, true);
+        return MARK | 1;
     }
     let (mut a, mut b) = (n, (d - quotient * u64::from(n)) as u32);
     let (mut before, mut last) = (1 << 16, quotient << 16 | 1);
@@ -238,12 +241,12 @@ fn cut_proportion(n: u32, d: u64) -> (u32, bool) {
         let quotient = a / b;
         let next = u64::from(quotient) * last + before;
         if next >> 31 != 0 {
-            return (last as u32, true);
+            return MARK | (last as u32).rotate_left(16);
         }
         (a, b) = (b, a - quotient * b);
         (before, last) = (last, next);
     }
-    (last as u32, false)
+    (last as u32).rotate_left(16)
 }
 
 // The functions on words.

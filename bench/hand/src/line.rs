@@ -69,6 +69,15 @@ impl Listing<'_> {
         self.text(b"\t00000000\t-\t-\n");
     }
 
+    /// The columns after the name of a word: a void one is 0, any other from 0 to 1.
+    #[inline(always)]
+    pub fn word(&mut self, word: u32) {
+        if word == 0 {
+            return self.void();
+        }
+        self.columns(word, word >> 16, word & 0x7fff);
+    }
+
     /// The columns after the name: the word of n/d, its fraction and its percentage. Always in place: a night
     /// took 1.3 percent longer where this was a call.
     #[inline(always)]

@@ -2,8 +2,9 @@
 //!
 //! A bad line stops the call that begins with it, or with the recording, and nothing is stored.
 
+use crate::breath::{self, BAD_RATE, VOID};
 use crate::line::{in_window, Listing, MOST_BREATHS, MOST_BYTES};
-use crate::{cut, cut_proportion, form, put, Answer, Form};
+use crate::{round, Answer};
 
 /// The bytes of the longest listing.
 pub const LISTING_BYTES: usize = 2_162_719;
@@ -11,29 +12,40 @@ pub const LISTING_BYTES: usize = 2_162_719;
 /// The largest tick mark, the longest that is none too large.
 const LARGEST_MARK: &[u8] = b"4294967295";
 
+/// What stands before the rate in its line.
+const RATE: &[u8] = b"rate\t";
+
 /// Lists a recording and gives the listing's length. It is read through before anything is stored.
 #[inline]
-pub fn night(recording: &[u8], listing: &mut [u8]) -> Answer {
-    check(recording)?;
-    Ok(Night::begun().piece(recording, true, listing).length as u64)
+pub fn night<const HALVING: bool>(recording: &[u8], listing: &mut [u8]) -> Answer {
+    if let End::Refused { number, line } = end_of(recording) {
+        return Err(line * 256 + number);
+    }
+    let mut night = Night::<HALVING>::begun();
+    Ok(night.piece(recording, true, listing).length as u64)
 }
 
-/// Reads a recording through, for the stop of its first bad line.
+/// How a recording ends, which is read through.
 #[inline]
-fn check(recording: &[u8]) -> Result<(), u64> {
-    let (mut line, mut rest) = (1, recording);
+fn end_of(recording: &[u8]) -> End {
+    let (mut breath, mut rest) = match first_line(recording) {
+        Ok((_, used)) => (1, &recording[used..]),
+        Err(end) => return end,
+    };
     loop {
-        match next_line(line, rest, good_line) {
-            Ok(used) => (line, rest) = (line + 1, &rest[used..]),
-            Err(End::Refused { number, line }) => return Err(line * 256 + number),
-            Err(_) => return Ok(()),
+        match next_line(breath, rest, good_line) {
+            Ok(used) => (breath, rest) = (breath + 1, &rest[used..]),
+            Err(end) => return end,
         }
     }
 }
 
-/// A night that is being listed: the number of its next line, and the sums so far.
-pub struct Night {
-    line: u32,
+/// A night that is being listed, with HALVING as `breath` says.
+pub struct Night<const HALVING: bool> {
+    /// The ticks of the longest breath that isn't void; 0 before the rate line is read.
+    longest: u32,
+    /// The number of the next breath.
+    breath: u32,
     in_sum: u64,
     whole_sum: u64,
 }
@@ -52,10 +64,11 @@ pub enum End {
     Refused { number: u64, line: u64 },
 }
 
-impl Night {
-    pub fn begun() -> Night {
+impl<const HALVING: bool> Night<HALVING> {
+    pub fn begun() -> Self {
         Night {
-            line: 1,
+            longest: 0,
+            breath: 1,
             in_sum: 0,
             whole_sum: 0,
         }
@@ -65,70 +78,83 @@ impl Night {
     /// lines that were listed is left to the next call, which stores nothing.
     #[inline]
     pub fn piece(&mut self, recording: &[u8], last: bool, bytes: &mut [u8]) -> Piece {
-        let Ok(stored) = form(1, 15) else {
-            unreachable!()
-        };
-        let room = bytes.len();
         let mut listing = Listing { bytes, length: 0 };
-        let mut rest = recording;
-        let mut end = End::Open;
+        match self.rate_line(recording, last) {
+            Ok(used) => {
+                let breaths = &recording[used..];
+                let (rest, end) = self.breaths(breaths, last, &mut listing);
+                Piece {
+                    used: recording.len() - rest.len(),
+                    length: listing.length,
+                    end,
+                }
+            }
+            Err(end) => Piece {
+                used: 0,
+                length: 0,
+                end,
+            },
+        }
+    }
+
+    /// Reads the rate line, if it is due, there and sure, and gives the bytes that it uses.
+    #[inline]
+    fn rate_line(&mut self, recording: &[u8], last: bool) -> Result<usize, End> {
+        let is_due = self.longest == 0 && !recording.is_empty();
+        if !is_due || !(last || is_sure(recording)) {
+            return Ok(0);
+        }
+        let (longest, used) = first_line(recording)?;
+        self.longest = longest;
+        Ok(used)
+    }
+
+    /// Lists breaths, and behind the last one the total; gives the bytes that are left.
+    #[inline]
+    fn breaths<'a>(
+        &mut self,
+        breaths: &'a [u8],
+        last: bool,
+        listing: &mut Listing,
+    ) -> (&'a [u8], End) {
+        let room = listing.bytes.len();
+        let mut rest = breaths;
         while room - listing.length >= MOST_BYTES && (last || is_sure(rest)) {
-            match next_line(self.line, rest, breath) {
+            match next_line(self.breath, rest, breath_line) {
                 Ok((inward, whole, used)) => {
-                    listing.decimal(self.line);
-                    columns(&mut listing, stored, inward, whole);
-                    self.add(inward, whole);
+                    listing.decimal(self.breath);
+                    listing.word(self.add(inward, whole));
                     rest = &rest[used..];
-                    continue;
                 }
                 Err(End::Closed) => {
                     listing.text(b"all");
-                    columns(&mut listing, stored, self.in_sum, self.whole_sum);
-                    end = End::Closed;
+                    listing.word(self.total());
+                    return (rest, End::Closed);
                 }
-                Err(refused) if rest.len() == recording.len() => end = refused,
-                Err(_) => {}
+                Err(refused) if rest.len() == breaths.len() => return (rest, refused),
+                Err(_) => break,
             }
-            break;
         }
-        Piece {
-            used: recording.len() - rest.len(),
-            length: listing.length,
-            end,
-        }
+        (rest, End::Open)
     }
 
+    /// The word of the next breath, which is added to the sums unless it is void.
     #[inline]
-    fn add(&mut self, inward: u64, whole: u64) {
-        if inward <= whole {
-            self.in_sum += inward;
-            self.whole_sum += whole;
+    fn add(&mut self, inward: u32, whole: u32) -> u32 {
+        let word = breath::word::<HALVING>(self.longest, inward, whole);
+        if word != VOID {
+            self.in_sum += u64::from(inward);
+            self.whole_sum += u64::from(whole);
         }
-        self.line += 1;
+        self.breath += 1;
+        word
     }
-}
 
-/// The pair of a ratio that isn't void: a breath's has numbers of 32 bits, and isn't above 1.
-#[inline]
-fn rounded(stored: Form, inward: u64, whole: u64) -> (u64, u64, bool) {
-    match u32::try_from(inward) {
-        Ok(n) if 0 < n && inward <= whole => {
-            let (pair, changed) = cut_proportion(n, whole);
-            ((pair & 0xffff).into(), (pair >> 16).into(), changed)
-        }
-        _ => cut(stored, inward, whole),
+    /// The word of the total. A whole of 0, which void breaths leave, is refused as a denominator.
+    #[inline]
+    fn total(&self) -> u32 {
+        round(1, 15, self.in_sum, self.whole_sum).map_or(VOID, |word| word as u32)
     }
-}
-
-/// Lists the columns of a ratio, rounded; those of a void one where it is void.
-#[inline]
-fn columns(listing: &mut Listing, stored: Form, inward: u64, whole: u64) {
-    if whole == 0 || inward > whole {
-        return listing.void();
-    }
-    let (n, d, changed) = rounded(stored, inward, whole);
-    let word = put(stored, false, changed, n, d);
-    listing.columns(word as u32, n as u32, d as u32);
 }
 
 /// Whether no byte that follows these changes what their first line says.
@@ -137,28 +163,51 @@ fn is_sure(rest: &[u8]) -> bool {
     rest.len() >= MOST_BYTES || rest.contains(&b'\n')
 }
 
-/// What is read of the line with this number, or how the recording ends there.
+/// The ticks of the longest breath by the rate line and the bytes that it uses, or how the recording ends there.
+#[inline]
+fn first_line(recording: &[u8]) -> Result<(u32, usize), End> {
+    if recording.is_empty() {
+        return Err(End::Closed);
+    }
+    in_window(recording, longest).ok_or_else(|| {
+        let number = line_text(recording).map_or(9, |_| BAD_RATE);
+        End::Refused { number, line: 1 }
+    })
+}
+
+/// What is read of the line of the breath with this number, or how the recording ends there.
 #[inline]
 fn next_line<T>(
-    line: u32,
+    breath: u32,
     rest: &[u8],
     read: impl Fn(&[u8; MOST_BYTES]) -> Option<T>,
 ) -> Result<T, End> {
     if rest.is_empty() {
         return Err(End::Closed);
     }
-    let number = if line > MOST_BREATHS {
+    let number = if breath > MOST_BREATHS {
         8
     } else if let Some(found) = in_window(rest, read) {
         return Ok(found);
     } else {
         stop(rest)
     };
-    let line = u64::from(line);
+    // The rate line is the first.
+    let line = u64::from(breath) + 1;
     Err(End::Refused { number, line })
 }
 
-/// The bytes that a good line uses.
+/// The ticks of the longest breath by a good rate line, and the bytes that it uses.
+#[inline]
+fn longest(line: &[u8; MOST_BYTES]) -> Option<(u32, usize)> {
+    if !line.starts_with(RATE) {
+        return None;
+    }
+    let (rate, used) = mark(line, RATE.len(), b'\n')?;
+    Some((breath::longest(rate.into())?, used))
+}
+
+/// The bytes that a good breath's line uses.
 #[inline]
 fn good_line(line: &[u8; MOST_BYTES]) -> Option<usize> {
     let peak_at = good_mark(line, 0, b'\t')?;
@@ -181,19 +230,17 @@ fn good_mark(line: &[u8; MOST_BYTES], from: usize, end: u8) -> Option<usize> {
     good.then_some(at + 1)
 }
 
-/// A line's durations, in and whole, and the bytes that it uses.
+/// A breath's durations, in and whole, and the bytes that its line uses.
 #[inline]
-fn breath(line: &[u8; MOST_BYTES]) -> Option<(u64, u64, usize)> {
+fn breath_line(line: &[u8; MOST_BYTES]) -> Option<(u32, u32, usize)> {
     let (onset, peak_at) = mark(line, 0, b'\t')?;
     let (peak, next_at) = mark(line, peak_at, b'\t')?;
     let (next, used) = mark(line, next_at, b'\n')?;
-    let inward = peak.wrapping_sub(onset);
-    let whole = next.wrapping_sub(onset);
-    Some((inward.into(), whole.into(), used))
+    Some((peak.wrapping_sub(onset), next.wrapping_sub(onset), used))
 }
 
-/// The tick mark from a place on that the byte `end` ends, and the place behind both. Ten digits fit
-/// 64 bits, and no tick mark has more.
+/// The number of 32 bits from a place on that the byte `end` ends, and the place behind both. Ten digits
+/// fit 64 bits, and no such number has more.
 #[inline]
 fn mark(line: &[u8; MOST_BYTES], from: usize, end: u8) -> Option<(u32, usize)> {
     let (mut value, mut at) = (0u64, from);
@@ -208,14 +255,20 @@ fn mark(line: &[u8; MOST_BYTES], from: usize, end: u8) -> Option<(u32, usize)> {
     good.then_some((value as u32, at + 1))
 }
 
+/// The first line of some bytes without its line feed, if that comes soon enough.
+fn line_text(bytes: &[u8]) -> Option<&[u8]> {
+    let window = &bytes[..bytes.len().min(MOST_BYTES)];
+    let end = window.iter().position(|&byte| byte == b'\n')?;
+    Some(&window[..end])
+}
+
 /// Why a line that isn't three tick marks is refused.
 #[cold]
 fn stop(bytes: &[u8]) -> u64 {
-    let window = &bytes[..bytes.len().min(MOST_BYTES)];
-    let Some(end) = window.iter().position(|&byte| byte == b'\n') else {
+    let Some(text) = line_text(bytes) else {
         return 9;
     };
-    let tabs = window[..end].iter().filter(|&&byte| byte == b'\t').count();
+    let tabs = text.iter().filter(|&&byte| byte == b'\t').count();
     if tabs == 2 {
         11
     } else {

@@ -1,7 +1,7 @@
 //! Records of timings from the scoring package, rounded to fixed k = 15 by hand-written code: judged whole,
 //! then stored.
 
-use crate::{at, cut_proportion, Answer, UNEQUAL_LENGTHS};
+use crate::{at, proportion, Answer, MARK, UNEQUAL_LENGTHS};
 
 const PARTIAL_RECORD: u64 = 16;
 const UNKNOWN_KIND: u64 = 17;
@@ -85,8 +85,7 @@ fn rounded(first: u32, second: u32) -> u64 {
     let significand = |bits: u32| bits & (leading - 1) | leading;
     let exponents = (second >> FRACTION_BITS) - (first >> FRACTION_BITS);
     let whole = u64::from(significand(second)) << exponents;
-    let (pair, changed) = cut_proportion(significand(first), whole);
-    u64::from(pair.rotate_left(16)) | u64::from(changed) << 15
+    proportion(significand(first), whole).into()
 }
 
 // Many records at once.
@@ -286,7 +285,7 @@ fn end(a: &Lanes, b: &Lanes, s: &mut Lanes, t: &Lanes, marks: &mut [u32; LANES])
         let before = f32::from_bits(before.to_bits() | sign);
         let behind = floor(larger / remainder) * last + before;
         s[lane] = if behind <= LARGEST { behind } else { last };
-        marks[lane] = if remainder == 0.0 { 0 } else { 1 << 15 };
+        marks[lane] = if remainder == 0.0 { 0 } else { MARK };
     }
 }
 

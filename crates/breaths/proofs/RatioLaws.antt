@@ -2,7 +2,8 @@
 -- `breath-best`, `night-best`, `breaths-best`: demand 3, of a breath, a night and each of some breaths. `breath-rounded`, `night-rounded`: demand
 -- 2, of a breath and a night. `breath-mark`, `night-mark`: the mark of their words. `ratio-proportion`: the word of a ratio from 0 to 1 is a
 -- fraction from 0 to 1. `span-is`, `span-leads`: a difference modulo 2^32 leads from the first tick mark to the second,
--- and any number below 2^32 that does is it. `good-breath`: a breath that isn't void has a whole, and an in that doesn't exceed it.
+-- and any number below 2^32 that does is it. `good-breath`: a breath that isn't void has a whole, an in that doesn't exceed it, and isn't
+-- longer than 120 times the rate.
 use mathlib.Core.Path.{_≡_, refl, sym, ap, _∙_, subst}
 use mathlib.Core.Bool.{Bool, true, false, not, _&&_, _||_, true≢false}
 use mathlib.Core.List.{List, [], _∷_}
@@ -240,58 +241,59 @@ ratio-of-word (Word w) s =
     sym (of-some w z)
 
 -- what the ratio of a breath and of a night promises: what it is, its word, and demand 3
-abbrev Promised : (ratio : Ratio) (word N D : ℕ) → Ratio → Type 0
+abbrev pub Promised : (ratio : Ratio) (word N D : ℕ) → Ratio → Type 0
 Promised ratio word N D r = (r ≡ ratio) × ((wordOf r ≡ word) × BestRatio N D r)
 
 -- ---- a breath
 
-or-false : (s t : Bool) → (s || t) ≡ false → (s ≡ false) × (t ≡ false)
-or-false true t e = absurd (true≢false e)
-or-false false t e = (refl, e)
+pub or-parts : (s t : Bool) → (s || t) ≡ false → (s ≡ false) × (t ≡ false)
+or-parts true t e = absurd (true≢false e)
+or-parts false t e = (refl, e)
 
-module _ (b : Breath) where
-  pub void-is : (eqb (b .whole) 0 || ltb (b .whole) (b .inspiration)) ≡ isVoid b
+module _ (rate : ℕ) (b : Breath) where
+  pub void-is : (longest : ℕ) → longest ≡ 120 * rate → ((eqb (b .whole) 0 || ltb (b .whole) (b .inspiration)) || ltb longest (b .whole)) ≡ isVoid rate b
   unfolding isVoid
-  void-is = refl
+  void-is longest e = ap (λ (n : ℕ). (eqb (b .whole) 0 || ltb (b .whole) (b .inspiration)) || ltb n (b .whole)) e
 
   -- a breath that isn't void
-  pub good-breath : isVoid b ≡ false → (1 ≤ b .whole) × (b .inspiration ≤ b .whole)
+  pub good-breath : isVoid rate b ≡ false → (1 ≤ b .whole) × (b .inspiration ≤ b .whole) × (b .whole ≤ 120 * rate)
   good-breath h =
-      let w = or-false (eqb (b .whole) 0) (ltb (b .whole) (b .inspiration)) (void-is ∙ h) in
+      let v = or-parts (eqb (b .whole) 0 || ltb (b .whole) (b .inspiration)) (ltb (120 * rate) (b .whole)) (void-is (120 * rate) refl ∙ h) in
+      let w = or-parts (eqb (b .whole) 0) (ltb (b .whole) (b .inspiration)) (v .0) in
       let n : b .whole ≡ 0 → ⊥ = eqb-false _ _ (w .0) in
-      (omega arith, ltb-false _ _ (w .1))
+      (omega arith, ltb-false _ _ (w .1), ltb-false _ _ (v .1))
 
-  pub breath-void : isVoid b ≡ true → Promised (breathRatio b) (breathWord b) (b .inspiration) (b .whole) Void
+  pub breath-void : isVoid rate b ≡ true → Promised (breathRatio rate b) (breathWord rate b) (b .inspiration) (b .whole) Void
   unfolding breathRatio breathWord wordOf BestRatio
   breath-void h = (rw h refl, (rw h refl, tt))
 
-  pub breath-word : isVoid b ≡ false → (r : Ratio)
+  pub breath-word : isVoid rate b ≡ false → (r : Ratio)
       → (r ≡ partsRatio (b .inspiration) (b .whole)) × BestRatio (b .inspiration) (b .whole) r
-      → Promised (breathRatio b) (breathWord b) (b .inspiration) (b .whole) r
+      → Promised (breathRatio rate b) (breathWord rate b) (b .inspiration) (b .whole) r
   unfolding breathRatio breathWord wordOf
   breath-word h r w =
       let e : r ≡ Word (ratioWord (b .inspiration) (b .whole)) = w .0 ∙ parts-some _ _ (good-breath h .0) in
       (e ∙ rw h refl, (ap wordOf e ∙ rw h refl, w .1))
 
   -- Demand 3, of every breath.
-  pub breath-best : BestRatio (b .inspiration) (b .whole) (breathRatio b)
+  pub breath-best : BestRatio (b .inspiration) (b .whole) (breathRatio rate b)
   unfolding breathRatio BestRatio
-  breath-best = if-case (BestRatio (b .inspiration) (b .whole)) (isVoid b) _ _ (λ h. tt) (λ h. ratio-best _ _ (good-breath h .0))
+  breath-best = if-case (BestRatio (b .inspiration) (b .whole)) (isVoid rate b) _ _ (λ h. tt) (λ h. ratio-best _ _ (good-breath h .0))
 
-  module _ (h : isVoid b ≡ false) where
+  module _ (h : isVoid rate b ≡ false) where
     -- Every breath line is the exact result, in over whole, cut to its last continued-fraction convergent that the format holds.
-    pub breath-rounded : fractionOf (breathWord b) ≡ round (holds ratioFormat) (b .inspiration) (b .whole)
+    pub breath-rounded : fractionOf (breathWord rate b) ≡ round (holds ratioFormat) (b .inspiration) (b .whole)
     unfolding breathWord
     breath-rounded = rw h (ratio-rounded _ _ (good-breath h .0))
 
     -- Its mark is 1 if rounding changed the value.
-    pub breath-mark : numberOf ratioFormat (breathWord b) .approximate ≡ differs (b .inspiration) (b .whole) (fractionOf (breathWord b))
+    pub breath-mark : numberOf ratioFormat (breathWord rate b) .approximate ≡ differs (b .inspiration) (b .whole) (fractionOf (breathWord rate b))
     unfolding breathWord
     breath-mark = rw h (ratio-mark _ _ (good-breath h .0))
 
-  pub breath-proportion : PrintableRatio (breathRatio b)
+  pub breath-proportion : PrintableRatio (breathRatio rate b)
   unfolding breathRatio
-  breath-proportion = if-case PrintableRatio (isVoid b) _ _ (λ h. tt) (λ h. ratio-proportion _ _ (good-breath h .0) (good-breath h .1))
+  breath-proportion = if-case PrintableRatio (isVoid rate b) _ _ (λ h. tt) (λ h. ratio-proportion _ _ (good-breath h .0) (good-breath h .1))
 
 -- ---- a night
 
@@ -307,7 +309,7 @@ module _ (s : Sums) where
       go false = refl
 
   -- a breath is left
-  some-left : noneLeft s ≡ false → 1 ≤ s .whole
+  pub some-left : noneLeft s ≡ false → 1 ≤ s .whole
   unfolding noneLeft
   some-left h = let n : s .whole ≡ 0 → ⊥ = eqb-false _ _ h in omega arith
 
@@ -333,7 +335,7 @@ module _ (s : Sums) where
   night-proportion p = if-case PrintableRatio (noneLeft s) _ _ (λ h. tt) (λ h. ratio-proportion _ _ (some-left h) p)
 
 -- Demand 3, of some breaths.
-pub breaths-best : (bs : List Breath) → BestBreaths bs
+pub breaths-best : (rate : ℕ) (bs : List Breath) → BestBreaths rate bs
 unfolding BestBreaths
-breaths-best [] = tt
-breaths-best (b ∷ bs) = (breath-best b, breaths-best bs)
+breaths-best rate [] = tt
+breaths-best rate (b ∷ bs) = (breath-best rate b, breaths-best rate bs)

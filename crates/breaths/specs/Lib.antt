@@ -1,4 +1,5 @@
 -- What the papers say of a breath and of a night, in their order.
+pub mod Rates
 pub mod Ratios
 pub mod Breaths
 pub mod Sums

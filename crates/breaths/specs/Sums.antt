@@ -14,14 +14,14 @@ use Rattle.breaths.specs.declared.sums.Added.the-variants.{Done, Full}
 use Rattle.breaths.specs.declared.ratio.Ratio.{Ratio}
 use Rattle.breaths.specs.declared.ratio.Ratio.the-variants.{Void, Word}
 
--- A night has at most so many breaths: line 65,537 stops its recording.
+-- A night has at most so many breaths: the next one stops its recording.
 abbrev pub mostBreaths : ℕ
 mostBreaths = 65536
 
--- The breaths that aren't void.
-unfoldable pub notVoid : List Breath → List Breath
-notVoid [] = []
-notVoid (b ∷ bs) = elim (isVoid b) [ true ↦ notVoid bs | false ↦ b ∷ notVoid bs ]
+-- The breaths that aren't void at a rate.
+unfoldable pub notVoid : (rate : ℕ) → List Breath → List Breath
+notVoid rate [] = []
+notVoid rate (b ∷ bs) = elim (isVoid rate b) [ true ↦ notVoid rate bs | false ↦ b ∷ notVoid rate bs ]
 
 -- A sum over some breaths.
 unfoldable pub total : (Breath → ℕ) → List Breath → ℕ
@@ -29,8 +29,8 @@ total f [] = 0
 total f (b ∷ bs) = f b + total f bs
 
 -- The sums of a night's breaths: of in, and of whole, void breaths left out.
-unfoldable pub sumsOf : List Breath → Sums
-sumsOf bs = record { inspiration = total (λ b. b .inspiration) (notVoid bs); whole = total (λ b. b .whole) (notVoid bs) }
+unfoldable pub sumsOf : (rate : ℕ) → List Breath → Sums
+sumsOf rate bs = record { inspiration = total (λ b. b .inspiration) (notVoid rate bs); whole = total (λ b. b .whole) (notVoid rate bs) }
 
 -- ---- breath by breath
 
@@ -38,9 +38,9 @@ sumsOf bs = record { inspiration = total (λ b. b .inspiration) (notVoid bs); wh
 abbrev pub noSums : Sums
 noSums = record { inspiration = 0; whole = 0 }
 
-unfoldable pub withBreath : Sums → Breath → Sums
-withBreath s b =
-    if isVoid b then s
+unfoldable pub withBreath : (rate : ℕ) → Sums → Breath → Sums
+withBreath rate s b =
+    if isVoid rate b then s
     else record { inspiration = s .inspiration + b .inspiration; whole = s .whole + b .whole }
 
 -- Two sums in one.
@@ -57,8 +57,8 @@ addedOutcome (Done s) = done s
 addedOutcome Full = unnumbered
 
 -- What adding a breath comes to: the sums with it, where 64 bits have room for them. (Those of every night have: `night-fits`.)
-unfoldable pub oneMore : Sums → Breath → Outcome Sums
-oneMore s b = if fits (withBreath s b) then done (withBreath s b) else unnumbered
+unfoldable pub oneMore : (rate : ℕ) → Sums → Breath → Outcome Sums
+oneMore rate s b = if fits (withBreath rate s b) then done (withBreath rate s b) else unnumbered
 
 -- ---- the ratio
 

@@ -3,6 +3,7 @@ ghost use mathlib.Core.Path.{_≡_};
 ghost use Rattle.breaths.specs.Ratios.{wordOf, BestRatio};
 ghost use Rattle.breaths.specs.Sums.{addedOutcome, oneMore, nightRatio, nightWord};
 use crate::breath::Breath;
+use crate::rate::Rate;
 use crate::ratio::Ratio;
 
 // Breathing in, and whole breaths, summed over the breaths of a night that aren't void.
@@ -21,11 +22,11 @@ pub enum Added {
 const MOST: u64 = 18446744073709551615;
 
 impl Sums {
-    // The sums with one breath more: a void breath is left out.
-    pub fn with_breath(self, b: Breath) -> Added
-        ensures { λ r. ⌜ addedOutcome r ≡ oneMore self b ⌝ }
+    // The sums with one breath more, at a rate: a void breath is left out.
+    pub fn with_breath(self, b: Breath, rate: Rate) -> Added
+        ensures { λ r. ⌜ addedOutcome r ≡ oneMore (rate .ticks) self b ⌝ }
     {
-        if b.is_void() {
+        if b.is_void(rate) {
             return Added::Done(self);
         }
         let inspiration = b.inspiration as u64;

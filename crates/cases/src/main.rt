@@ -7,6 +7,7 @@ mod records;
 mod requests;
 mod show;
 mod single;
+mod ticks;
 mod words;
 
 use libc::STDIN_FILENO;

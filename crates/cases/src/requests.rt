@@ -5,6 +5,7 @@ use crate::places;
 use crate::records;
 use crate::show;
 use crate::single;
+use crate::ticks;
 use crate::words;
 use slash::Format;
 
@@ -40,6 +41,8 @@ fn run_words(line: Line) {
         b'C' => single::quotient_count_all(f),
         b't' => single::rearranged(f, a[3], a[4]),
         b'T' => single::rearranged_all(f, a[3]),
+        b'h' => ticks::breath(a[1], a[2], a[3], a[4]),
+        b'a' => ticks::added(a[1], a[2], a[3], a[4], a[5], a[6]),
         _ => show::text(b"unknown"),
     }
 }

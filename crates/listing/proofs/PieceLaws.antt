@@ -1,7 +1,7 @@
 -- A listing in pieces. Assumes nothing.
 -- `piece-listing`: from a night on, the listing of some bytes and whatever follows them is the piece's text, and then what it goes on with.
 -- `piece-refusing`: a piece that is refused lists nothing. `piece-sound`: from a night of a recording on, a piece uses no more bytes than there are, its text has room, and the
--- night behind it and its stop are those of a recording. `piece-on`: an open piece with room for a line listed one, or
+-- night behind it and its stop are those of a recording. `piece-on`: an open piece with room for a line took one, or
 -- waits for bytes.
 use mathlib.Core.Path.{_≡_, refl, sym, ap, _∙_, subst}
 use mathlib.Core.Logic.{_⊎_, inl, inr}
@@ -9,27 +9,37 @@ use mathlib.Core.Bool.{Bool, true, false, _||_, and-eq-true-iff, true≢false}
 use mathlib.Core.List.{List, [], _++_, append-assoc, append-nil}
 use Prim.Native.Nat.{ℕ, zero, suc, _+_, _-_, _≤_, _<_}
 use native.Mathlib.Omega.{arith}
+use native.Mathlib.Nat.{sub-zero}
 use native.Mathlib.Decide.{decLe}
 use lib.Dec.{leb, ltb}
 use lib.ListN.{length, drop, length-append, length-drop}
 use lib.Seq.{drop-append-le, drop-drop}
 use borrow.Author.Tests.{leb-true, ltb-true, ltb-false, le-leb, lt-leb}
+use Rattle.convergents.specs.Choice.{if_then_else_}
 use Rattle.slash.specs.Answers.{Outcome, stop, done, Stops}
+use Rattle.breaths.specs.Sums.{noSums}
 use Rattle.breaths.specs.declared.breath.Breath.{Breath}
 use Rattle.text.specs.Scan.{lengthBefore}
 use Rattle.text.specs.Lines.{refusedLine}
 use Rattle.text.proofs.ScanLaws.{before-le}
+use Rattle.recording.specs.Openings.{Start, aRate, noLine, firstOf}
 use Rattle.recording.specs.Reading.{Coming, aBreath, theEnd, nextOf}
 use Rattle.recording.specs.declared.line.Entry.{Entry}
-use Rattle.recording.proofs.ReadingLaws.{Ready, StopAt, follows-breath, follows-stop, next-ready}
-use Rattle.listing.specs.Listing.{breathLine, allLine, listingFrom, listingOn}
-use Rattle.listing.specs.Nights.{withLine, isNight}
-use Rattle.listing.specs.Pieces.{endOutcome, ListedPiece, leftToNext, endsHere, lineThen, isSure, pieceFrom, pieceOf, goesOn, restOf, MakesListing}
+use Rattle.recording.specs.declared.opening.Opening.{Opening}
+use Rattle.recording.proofs.LineLaws.{Ready}
+use Rattle.recording.proofs.OpeningLaws.{first-rated, first-stopped, first-ready}
+use Rattle.recording.proofs.ReadingLaws.{StopAt, follows-breath, follows-stop, next-ready}
+use Rattle.listing.specs.Listing.{breathLine, allLine, listingFrom, ratedListing, openedListing, listingOn}
+use Rattle.listing.specs.Nights.{rated, withLine, isRated, isNight}
+use Rattle.listing.specs.Pieces.{endOutcome, ListedPiece, leftToNext, endsHere, lineThen, isSure, pieceFrom, ratedPiece, openedPiece, pieceOf, goesOn, restOf, MakesListing}
+use Rattle.listing.specs.Steps.{nextLine}
 use Rattle.listing.specs.declared.night.Night.{Night}
+use Rattle.listing.specs.declared.night.Night.the-variants.{Begun, Rated}
+use Rattle.listing.specs.declared.night.RatedNight.{RatedNight}
 use Rattle.listing.specs.declared.piece.End.{End}
 use Rattle.listing.specs.declared.piece.End.the-variants.{Open, Closed, Refused, NoNight}
-use Rattle.listing.proofs.NightLaws.{Real, night-real, line-suc}
-use Rattle.listing.proofs.ListingLaws.{follows-real, listing-more, listing-end, listing-stop, line-length, last-length}
+use Rattle.listing.proofs.NightLaws.{Real, RealNight, night-real, opened-real, breath-suc}
+use Rattle.listing.proofs.ListingLaws.{follows-real, listing-more, listing-end, listing-stop, opened-rated, opened-empty, opened-stopped, opened-breath, line-length, last-length}
 
 -- ---- which lines are sure
 
@@ -46,10 +56,14 @@ sure-ready bs room e = go (leb 33 (length bs)) refl (and-eq-true-iff (leb 33 roo
     go false g h = inr (ltb-true _ _ h)
 
 -- nothing that follows changes what comes next, where it is sure
-sure-next : (line : ℕ) (bs more : List ℕ) (last : Bool) (room : ℕ) → (last ≡ true → more ≡ []) → isSure bs last room ≡ true
-    → nextOf line (bs ++ more) ≡ nextOf line bs
-sure-next line bs more true room ends e = ap (λ (m : List ℕ). nextOf line (bs ++ m)) (ends refl) ∙ ap (nextOf line) (append-nil bs)
-sure-next line bs more false room ends e = next-ready line bs more (sure-ready bs room e)
+sure-next : (breath : ℕ) (bs more : List ℕ) (last : Bool) (room : ℕ) → (last ≡ true → more ≡ []) → isSure bs last room ≡ true
+    → nextOf breath (bs ++ more) ≡ nextOf breath bs
+sure-next breath bs more true room ends e = ap (λ (m : List ℕ). nextOf breath (bs ++ m)) (ends refl) ∙ ap (nextOf breath) (append-nil bs)
+sure-next breath bs more false room ends e = next-ready breath bs more (sure-ready bs room e)
+
+sure-first : (bs more : List ℕ) (last : Bool) (room : ℕ) → (last ≡ true → more ≡ []) → isSure bs last room ≡ true → firstOf (bs ++ more) ≡ firstOf bs
+sure-first bs more true room ends e = ap (λ (m : List ℕ). firstOf (bs ++ m)) (ends refl) ∙ ap firstOf (append-nil bs)
+sure-first bs more false room ends e = first-ready bs more (sure-ready bs room e)
 
 -- the test, case by case
 module _ (bs : List ℕ) (last : Bool) (room : ℕ) where
@@ -88,76 +102,120 @@ unsure bs false room h e = go (decLe 33 (length bs))
 
 -- ---- one step of a piece
 
-module _ (steps : ℕ) (night : Night) (bs : List ℕ) (last : Bool) (room : ℕ) where
+module _ (steps : ℕ) (night : RatedNight) (bs : List ℕ) (last : Bool) (room : ℕ) where
   -- a breath's line, and what is listed behind it
   abbrev pub further : Entry → ListedPiece
   further entry =
-      lineThen (breathLine (night .breath) (entry .breath)) (entry .used)
-      (pieceFrom steps (withLine night (entry .breath)) (drop (entry .used) bs) last (room - length (breathLine (night .breath) (entry .breath))))
+      lineThen (breathLine (night .rate .ticks) (night .breath) (entry .breath)) (entry .used)
+      (pieceFrom steps (withLine night (entry .breath)) (drop (entry .used) bs) last (room - length (breathLine (night .rate .ticks) (night .breath) (entry .breath))))
 
   -- a stop at the next line
   abbrev pub refusedWith : (number place : ℕ) → ListedPiece
-  refusedWith number place = endsHere night [] (Refused (record { number = number; place = place }))
+  refusedWith number place = endsHere (Rated night) [] (Refused (record { number = number; place = place }))
 
   surely : Outcome Coming → ListedPiece
   surely (done (aBreath entry)) = further entry
-  surely (done theEnd) = endsHere night (allLine (night .sums)) Closed
+  surely (done theEnd) = endsHere (Rated night) (allLine (night .sums)) Closed
   surely (stop number place) = refusedWith number place
 
-  pieces-step : (t : Bool) → isSure bs last room ≡ t → pieceFrom (suc steps) night bs last room ≡ elim t [ true ↦ surely (nextOf (night .line) bs) | false ↦ endsHere night [] Open ]
+  pieces-step : (t : Bool) → isSure bs last room ≡ t → pieceFrom (suc steps) night bs last room ≡ elim t [ true ↦ surely (nextOf (night .breath) bs) | false ↦ endsHere (Rated night) [] Open ]
   unfolding pieceFrom surely
-  pieces-step t e = ap (λ (y : Bool). elim y as (λ z. ListedPiece) [ true ↦ surely (nextOf (night .line) bs) | false ↦ endsHere night [] Open ]) e
+  pieces-step t e = ap (λ (y : Bool). elim y as (λ z. ListedPiece) [ true ↦ surely (nextOf (night .breath) bs) | false ↦ endsHere (Rated night) [] Open ]) e
 
-  pub pieces-open : isSure bs last room ≡ false → pieceFrom (suc steps) night bs last room ≡ endsHere night [] Open
+  pub pieces-open : isSure bs last room ≡ false → pieceFrom (suc steps) night bs last room ≡ endsHere (Rated night) [] Open
   pieces-open f = pieces-step false f
 
   module _ (sure : isSure bs last room ≡ true) where
-    surely-is : (x : Outcome Coming) → nextOf (night .line) bs ≡ x → pieceFrom (suc steps) night bs last room ≡ surely x
+    surely-is : (x : Outcome Coming) → nextOf (night .breath) bs ≡ x → pieceFrom (suc steps) night bs last room ≡ surely x
     surely-is x e = pieces-step true sure ∙ ap surely e
 
-    pub pieces-more : (entry : Entry) → nextOf (night .line) bs ≡ done (aBreath entry) → pieceFrom (suc steps) night bs last room ≡ further entry
+    pub pieces-more : (entry : Entry) → nextOf (night .breath) bs ≡ done (aBreath entry) → pieceFrom (suc steps) night bs last room ≡ further entry
     unfolding surely
     pieces-more entry e = surely-is (done (aBreath entry)) e
 
-    pub pieces-end : nextOf (night .line) bs ≡ done theEnd → pieceFrom (suc steps) night bs last room ≡ endsHere night (allLine (night .sums)) Closed
+    pub pieces-end : nextOf (night .breath) bs ≡ done theEnd → pieceFrom (suc steps) night bs last room ≡ endsHere (Rated night) (allLine (night .sums)) Closed
     unfolding surely
     pieces-end e = surely-is (done theEnd) e
 
-    pub pieces-stop : {number place : ℕ} → nextOf (night .line) bs ≡ stop number place → pieceFrom (suc steps) night bs last room ≡ refusedWith number place
+    pub pieces-stop : {number place : ℕ} → nextOf (night .breath) bs ≡ stop number place → pieceFrom (suc steps) night bs last room ≡ refusedWith number place
     unfolding surely
     pieces-stop {number} {place} e = surely-is (stop number place) e
 
   -- what holds in each case holds of the piece
-  pub pieces-case : (P : ListedPiece → Type 0) → (isSure bs last room ≡ false → P (endsHere night [] Open))
-      → (isSure bs last room ≡ true → (entry : Entry) → nextOf (night .line) bs ≡ done (aBreath entry) → P (further entry))
-      → (isSure bs last room ≡ true → nextOf (night .line) bs ≡ done theEnd → P (endsHere night (allLine (night .sums)) Closed))
-      → (isSure bs last room ≡ true → (number place : ℕ) → nextOf (night .line) bs ≡ stop number place → P (refusedWith number place))
+  pub pieces-case : (P : ListedPiece → Type 0) → (isSure bs last room ≡ false → P (endsHere (Rated night) [] Open))
+      → (isSure bs last room ≡ true → (entry : Entry) → nextOf (night .breath) bs ≡ done (aBreath entry) → P (further entry))
+      → (isSure bs last room ≡ true → nextOf (night .breath) bs ≡ done theEnd → P (endsHere (Rated night) (allLine (night .sums)) Closed))
+      → (isSure bs last room ≡ true → (number place : ℕ) → nextOf (night .breath) bs ≡ stop number place → P (refusedWith number place))
       → P (pieceFrom (suc steps) night bs last room)
-  pieces-case P opened more ended stopped = go (isSure bs last room) refl (nextOf (night .line) bs) refl
+  pieces-case P opened more ended stopped = go (isSure bs last room) refl (nextOf (night .breath) bs) refl
     where
-      go : (t : Bool) → isSure bs last room ≡ t → (x : Outcome Coming) → nextOf (night .line) bs ≡ x → P (pieceFrom (suc steps) night bs last room)
+      go : (t : Bool) → isSure bs last room ≡ t → (x : Outcome Coming) → nextOf (night .breath) bs ≡ x → P (pieceFrom (suc steps) night bs last room)
       go false t x n = subst P (sym (pieces-open t)) (opened t)
       go true t (done (aBreath entry)) n = subst P (sym (pieces-more t entry n)) (more t entry n)
       go true t (done theEnd) n = subst P (sym (pieces-end t n)) (ended t n)
       go true t (stop number place) n = subst P (sym (pieces-stop t n)) (stopped t number place n)
 
-pub piece-is : (night : Night) (bs : List ℕ) (last : Bool) (room : ℕ) → isNight night ≡ true
-    → pieceOf night bs last room ≡ pieceFrom (65538 - night .line) night bs last room
-unfolding pieceOf
-piece-is night bs last room e = rw (e) refl
+-- ---- a piece of a night, whether its rate is read or not
 
-none-is : (night : Night) (bs : List ℕ) (last : Bool) (room : ℕ) → isNight night ≡ false → pieceOf night bs last room ≡ endsHere night [] NoNight
+pub rated-is : (night : RatedNight) (bs : List ℕ) (last : Bool) (room : ℕ) → isRated night ≡ true
+    → pieceOf (Rated night) bs last room ≡ pieceFrom (65538 - night .breath) night bs last room
+unfolding pieceOf ratedPiece
+rated-is night bs last room e = rw (e) refl
+
+pub none-is : (night : RatedNight) (bs : List ℕ) (last : Bool) (room : ℕ) → isRated night ≡ false → pieceOf (Rated night) bs last room ≡ endsHere (Rated night) [] NoNight
 unfolding pieceOf
 none-is night bs last room e = rw (e) refl
 
--- what holds of every piece of a night, and where the night is none
-pub piece-case : (P : ListedPiece → Type 0) (night : Night) (bs : List ℕ) (last : Bool) (room : ℕ)
-    → (isNight night ≡ true → P (pieceFrom (65538 - night .line) night bs last room)) → P (endsHere night [] NoNight)
-    → P (pieceOf night bs last room)
-piece-case P night bs last room real none = go (isNight night) refl
+module _ (bs : List ℕ) (last : Bool) (room : ℕ) where
+  -- behind the rate line
+  abbrev pub afterRate : Opening → ListedPiece
+  afterRate o = lineThen [] (o .used) (pieceFrom 65537 (rated (o .rate)) (drop (o .used) bs) last room)
+
+  first-step : (t : Bool) → isSure bs last room ≡ t → pieceOf Begun bs last room ≡ (if t then openedPiece (firstOf bs) bs last room else endsHere Begun [] Open)
+  unfolding pieceOf
+  first-step t e = ap (λ (y : Bool). if y then openedPiece (firstOf bs) bs last room else endsHere Begun [] Open) e
+
+  pub first-open : isSure bs last room ≡ false → pieceOf Begun bs last room ≡ endsHere Begun [] Open
+  first-open e = first-step false e
+
+  module _ (sure : isSure bs last room ≡ true) where
+    first-as : (x : Outcome Start) → firstOf bs ≡ x → pieceOf Begun bs last room ≡ openedPiece x bs last room
+    first-as x e = first-step true sure ∙ ap (λ (y : Outcome Start). openedPiece y bs last room) e
+
+    pub first-rate : (o : Opening) → firstOf bs ≡ done (aRate o) → pieceOf Begun bs last room ≡ afterRate o
+    unfolding openedPiece ratedPiece rated
+    first-rate o e = first-as (done (aRate o)) e
+
+    pub first-end : firstOf bs ≡ done noLine → pieceOf Begun bs last room ≡ endsHere Begun (allLine noSums) Closed
+    unfolding openedPiece
+    first-end e = first-as (done noLine) e
+
+    pub first-stop : {number place : ℕ} → firstOf bs ≡ stop number place → pieceOf Begun bs last room ≡ endsHere Begun [] (Refused (record { number = number; place = place }))
+    unfolding openedPiece
+    first-stop {number} {place} e = first-as (stop number place) e
+
+  -- what holds in each case holds of the first piece
+  pub first-case : (P : ListedPiece → Type 0) → (isSure bs last room ≡ false → P (endsHere Begun [] Open))
+      → (isSure bs last room ≡ true → (o : Opening) → firstOf bs ≡ done (aRate o) → P (afterRate o))
+      → (isSure bs last room ≡ true → firstOf bs ≡ done noLine → P (endsHere Begun (allLine noSums) Closed))
+      → (isSure bs last room ≡ true → (number place : ℕ) → firstOf bs ≡ stop number place → P (endsHere Begun [] (Refused (record { number = number; place = place }))))
+      → P (pieceOf Begun bs last room)
+  first-case P opened more ended stopped = go (isSure bs last room) refl (firstOf bs) refl
+    where
+      go : (t : Bool) → isSure bs last room ≡ t → (x : Outcome Start) → firstOf bs ≡ x → P (pieceOf Begun bs last room)
+      go false t x n = subst P (sym (first-open t)) (opened t)
+      go true t (done (aRate o)) n = subst P (sym (first-rate t o n)) (more t o n)
+      go true t (done noLine) n = subst P (sym (first-end t n)) (ended t n)
+      go true t (stop number place) n = subst P (sym (first-stop t n)) (stopped t number place n)
+
+-- what holds of every piece of a night whose rate is read, and where the night is none
+pub rated-case : (P : ListedPiece → Type 0) (night : RatedNight) (bs : List ℕ) (last : Bool) (room : ℕ)
+    → (isRated night ≡ true → P (pieceFrom (65538 - night .breath) night bs last room)) → P (endsHere (Rated night) [] NoNight)
+    → P (pieceOf (Rated night) bs last room)
+rated-case P night bs last room real none = go (isRated night) refl
   where
-    go : (t : Bool) → isNight night ≡ t → P (pieceOf night bs last room)
-    go true e = subst P (sym (piece-is night bs last room e)) (real e)
+    go : (t : Bool) → isRated night ≡ t → P (pieceOf (Rated night) bs last room)
+    go true e = subst P (sym (rated-is night bs last room e)) (real e)
     go false e = subst P (sym (none-is night bs last room e)) none
 
 -- ---- a piece that is refused
@@ -191,28 +249,42 @@ refusing-lineThen : (night : Night) (line : List ℕ) (used : ℕ) (l : ListedPi
 unfolding lineThen
 refusing-lineThen night line used l some h = absurd (held-not used (l .end) some h)
 
-refusing : (steps : ℕ) (night : Night) (bs : List ℕ) (last : Bool) (room : ℕ) → IfStops night (pieceFrom steps night bs last room)
+refusing : (steps : ℕ) (night : RatedNight) (bs : List ℕ) (last : Bool) (room : ℕ) → IfStops (Rated night) (pieceFrom steps night bs last room)
 unfolding pieceFrom
-refusing zero night bs last room = refusing-endsHere night Open
+refusing zero night bs last room = refusing-endsHere (Rated night) Open
 refusing (suc steps) night bs last room =
-    pieces-case steps night bs last room (IfStops night)
-    (λ t. refusing-endsHere night Open)
+    pieces-case steps night bs last room (IfStops (Rated night))
+    (λ t. refusing-endsHere (Rated night) Open)
     (λ t entry n. further-refusing t entry n)
-    (λ t n. closed-endsHere night (allLine (night .sums)))
-    (λ t number place n. refusing-endsHere night _)
+    (λ t n. closed-endsHere (Rated night) (allLine (night .sums)))
+    (λ t number place n. refusing-endsHere (Rated night) _)
   where
-    further-refusing : isSure bs last room ≡ true → (entry : Entry) → nextOf (night .line) bs ≡ done (aBreath entry) → IfStops night (further steps night bs last room entry)
-    further-refusing t entry n = refusing-lineThen night _ (entry .used) _ (omega (arith, follows-breath (night .line) bs entry n .1 .ended))
+    further-refusing : isSure bs last room ≡ true → (entry : Entry) → nextOf (night .breath) bs ≡ done (aBreath entry)
+        → IfStops (Rated night) (further steps night bs last room entry)
+    further-refusing t entry n = refusing-lineThen (Rated night) _ (entry .used) _ (omega (arith, follows-breath (night .breath) bs entry n .1 .ended))
+
+refuses : (night : Night) (bs : List ℕ) (last : Bool) (room : ℕ) → IfStops night (pieceOf night bs last room)
+refuses Begun bs last room =
+    first-case bs last room (IfStops Begun)
+    (λ t. refusing-endsHere Begun Open)
+    (λ t o e. refusing-lineThen Begun [] (o .used) _ (omega (arith, first-rated bs o e .0 .ended)))
+    (λ t e. closed-endsHere Begun (allLine noSums))
+    (λ t number place e. refusing-endsHere Begun _)
+refuses (Rated night) bs last room =
+    rated-case (IfStops (Rated night)) night bs last room (λ e. refusing (65538 - night .breath) night bs last room) (refusing-endsHere (Rated night) NoNight)
 
 pub piece-refusing : (night : Night) (bs : List ℕ) (last : Bool) (room : ℕ) → Stops (endOutcome (pieceOf night bs last room .end)) → pieceOf night bs last room .text ≡ []
-piece-refusing night bs last room h =
-    piece-case (IfStops night) night bs last room (λ e. refusing (65538 - night .line) night bs last room) (refusing-endsHere night NoNight) h .text
+piece-refusing night bs last room h = refuses night bs last room h .text
 
 -- ---- the pieces make the listing
 
-open-rest : (night : Night) (bs : List ℕ) (steps : ℕ) → steps ≡ 65538 - night .line → listingFrom steps night bs ≡ goesOn (done false) night bs
-unfolding goesOn listingOn
+open-rest : (night : RatedNight) (bs : List ℕ) (steps : ℕ) → steps ≡ 65538 - night .breath → listingFrom steps night bs ≡ goesOn (done false) (Rated night) bs
+unfolding goesOn listingOn ratedListing
 open-rest night bs steps e = ap (λ (k : ℕ). listingFrom k night bs) e
+
+begun-rest : (bs : List ℕ) → openedListing (firstOf bs) bs ≡ goesOn (done false) Begun bs
+unfolding goesOn listingOn
+begun-rest bs = refl
 
 refusing-rest : (night : Night) (l : ListedPiece) (bs more : List ℕ) → Refusing night l → goesOn (done false) night (bs ++ more) ≡ l .text ++ goesOn (done false) (l .night) (drop (l .used) bs ++ more)
 refusing-rest night l bs more r = rw (r .text, r .used, r .night) refl
@@ -256,47 +328,72 @@ module _ (more : List ℕ) (last : Bool) (ends : last ≡ true → more ≡ []) 
   unfolding endsHere restOf goesOn
   goes-stopped night bs text number place e = e
 
-  goes : (steps : ℕ) (night : Night) (bs : List ℕ) (room : ℕ) → Real night → night .line + steps ≡ 65538
+  goes : (steps : ℕ) (night : RatedNight) (bs : List ℕ) (room : ℕ) → Real night → night .breath + steps ≡ 65538
       → Goes bs (listingFrom steps night (bs ++ more)) (pieceFrom steps night bs last room)
   goes zero night bs room r e = absurd (omega (arith, r .few))
   goes (suc steps) night bs room r e =
       pieces-case steps night bs last room (Goes bs (listingFrom (suc steps) night (bs ++ more)))
-      (λ t. goes-open night bs _ (open-rest night (bs ++ more) (suc steps) (omega (arith, e))))
+      (λ t. goes-open (Rated night) bs _ (open-rest night (bs ++ more) (suc steps) (omega (arith, e))))
       (λ t entry n. further-goes t entry n
-      (goes steps (withLine night (entry .breath)) (drop (entry .used) bs) (room - length (breathLine (night .breath) (entry .breath)))
-      (follows-real night r bs entry n) (omega (arith, line-suc night (entry .breath), e))))
-      (λ t n. subst (λ (u : List ℕ). Goes bs u (endsHere night (allLine (night .sums)) Closed)) (sym (listing-end steps night (bs ++ more) (after t ∙ n))) (goes-closed night bs (allLine (night .sums))))
-      (λ t number place n. goes-stopped night bs _ number place (listing-stop steps night (bs ++ more) (after t ∙ n)))
+      (goes steps (withLine night (entry .breath)) (drop (entry .used) bs) (room - length (breathLine (night .rate .ticks) (night .breath) (entry .breath)))
+      (follows-real night r bs entry n) (omega (arith, breath-suc night (entry .breath), e))))
+      (λ t n. subst (λ (u : List ℕ). Goes bs u (endsHere (Rated night) (allLine (night .sums)) Closed)) (sym (listing-end steps night (bs ++ more) (after t ∙ n))) (goes-closed (Rated night) bs (allLine (night .sums))))
+      (λ t number place n. goes-stopped (Rated night) bs _ number place (listing-stop steps night (bs ++ more) (after t ∙ n)))
     where
-      after : isSure bs last room ≡ true → nextOf (night .line) (bs ++ more) ≡ nextOf (night .line) bs
-      after t = sure-next (night .line) bs more last room ends t
+      after : isSure bs last room ≡ true → nextOf (night .breath) (bs ++ more) ≡ nextOf (night .breath) bs
+      after t = sure-next (night .breath) bs more last room ends t
 
-      further-goes : isSure bs last room ≡ true → (entry : Entry) → nextOf (night .line) bs ≡ done (aBreath entry)
+      further-goes : isSure bs last room ≡ true → (entry : Entry) → nextOf (night .breath) bs ≡ done (aBreath entry)
           → Goes (drop (entry .used) bs) (listingFrom steps (withLine night (entry .breath)) (drop (entry .used) bs ++ more))
-          (pieceFrom steps (withLine night (entry .breath)) (drop (entry .used) bs) last (room - length (breathLine (night .breath) (entry .breath))))
+          (pieceFrom steps (withLine night (entry .breath)) (drop (entry .used) bs) last (room - length (breathLine (night .rate .ticks) (night .breath) (entry .breath))))
           → Goes bs (listingFrom (suc steps) night (bs ++ more)) (further steps night bs last room entry)
       further-goes t entry n ih =
-          let line : List ℕ = breathLine (night .breath) (entry .breath) in
-          let behind : Night = withLine night (entry .breath) in
+          let line : List ℕ = breathLine (night .rate .ticks) (night .breath) (entry .breath) in
+          let behind : RatedNight = withLine night (entry .breath) in
           let rest : List ℕ = drop (entry .used) bs in
           let l : ListedPiece = pieceFrom steps behind rest last (room - length line) in
-          let number : steps ≡ 65538 - behind .line = omega (arith, line-suc night (entry .breath), e) in
+          let number : steps ≡ 65538 - behind .breath = omega (arith, breath-suc night (entry .breath), e) in
           let held : Stops (endOutcome (l .end)) → listingFrom steps behind (rest ++ more) ≡ l .text ++ goesOn (done false) (l .night) (drop (l .used) rest ++ more) =
-          λ h. open-rest behind (rest ++ more) steps number ∙ refusing-rest behind l rest more (refusing steps behind rest last (room - length line) h)
+          λ h. open-rest behind (rest ++ more) steps number ∙ refusing-rest (Rated behind) l rest more (refusing steps behind rest last (room - length line) h)
           in
           listing-more steps night (bs ++ more) entry (after t ∙ n)
-          ∙ ap (λ (u : List ℕ). line ++ listingFrom steps behind u) (drop-append-le (entry .used) bs more (follows-breath (night .line) bs entry n .1 .within))
+          ∙ ap (λ (u : List ℕ). line ++ listingFrom steps behind u) (drop-append-le (entry .used) bs more (follows-breath (night .breath) bs entry n .1 .within))
           ∙ lineThen-rest (listingFrom steps behind (rest ++ more)) line (entry .used) l bs more ih held
+
+  -- behind the rate line
+  goes-rate : (bs : List ℕ) (room : ℕ) → isSure bs last room ≡ true → (o : Opening) → firstOf bs ≡ done (aRate o)
+      → Goes bs (openedListing (firstOf (bs ++ more)) (bs ++ more)) (afterRate bs last room o)
+  goes-rate bs room t o e =
+      let night : RatedNight = rated (o .rate) in
+      let rest : List ℕ = drop (o .used) bs in
+      let l : ListedPiece = pieceFrom 65537 night rest last room in
+      let number : 65537 ≡ 65538 - night .breath = omega (arith, opened-breath (o .rate)) in
+      let held : Stops (endOutcome (l .end)) → listingFrom 65537 night (rest ++ more) ≡ l .text ++ goesOn (done false) (l .night) (drop (l .used) rest ++ more) =
+      λ h. open-rest night (rest ++ more) 65537 number ∙ refusing-rest (Rated night) l rest more (refusing 65537 night rest last room h)
+      in
+      opened-rated (bs ++ more) o (sure-first bs more last room ends t ∙ e)
+      ∙ ap (listingFrom 65537 night) (drop-append-le (o .used) bs more (first-rated bs o e .0 .within))
+      ∙ lineThen-rest (listingFrom 65537 night (rest ++ more)) [] (o .used) l bs more (goes 65537 night rest room (opened-real (o .rate)) (omega (arith, opened-breath (o .rate)))) held
+
+  goes-first : (bs : List ℕ) (room : ℕ) → Goes bs (openedListing (firstOf (bs ++ more)) (bs ++ more)) (pieceOf Begun bs last room)
+  goes-first bs room =
+      first-case bs last room (Goes bs (openedListing (firstOf (bs ++ more)) (bs ++ more)))
+      (λ t. goes-open Begun bs _ (begun-rest (bs ++ more)))
+      (λ t o e. goes-rate bs room t o e)
+      (λ t e. subst (λ (u : List ℕ). Goes bs u (endsHere Begun (allLine noSums) Closed)) (sym (opened-empty (bs ++ more) (sure-first bs more last room ends t ∙ e))) (goes-closed Begun bs (allLine noSums)))
+      (λ t number place e. goes-stopped Begun bs _ number place (opened-stopped (bs ++ more) (sure-first bs more last room ends t ∙ e)))
 
 -- From a night on, the listing of some bytes and whatever follows them is the piece's text, and then what it goes on with: where the piece is
 -- open, the listing from its night of the bytes that it didn't use and whatever follows them; where it is refused, the line of the stop; else
 -- nothing. (Nothing follows the last bytes.)
 pub piece-listing : (night : Night) (bs more : List ℕ) (last : Bool) (room : ℕ) → isNight night ≡ true → (last ≡ true → more ≡ [])
     → listingOn night (bs ++ more) ≡ pieceOf night bs last room .text ++ restOf (pieceOf night bs last room) bs more
-unfolding listingOn pieceOf
-piece-listing night bs more last room e ends =
+unfolding listingOn ratedListing isNight
+piece-listing Begun bs more last room e ends = goes-first more last ends bs room
+piece-listing (Rated night) bs more last room e ends =
     let r : Real night = night-real night e in
-    rw (e) (goes more last ends (65538 - night .line) night bs room r (omega (arith, r .few)))
+    subst (λ (l : ListedPiece). listingFrom (65538 - night .breath) night (bs ++ more) ≡ l .text ++ restOf l bs more) (sym (rated-is night bs last room e))
+    (goes more last ends (65538 - night .breath) night bs room r (omega (arith, r .few)))
 
 pub makes-listing : (night : Night) (bs : List ℕ) (last : Bool) (room : ℕ) → MakesListing night bs last room
 unfolding MakesListing
@@ -304,19 +401,24 @@ makes-listing night bs last room more e ends = piece-listing night bs more last 
 
 -- ---- what holds of every piece
 
+-- A stop of a recording at a night's next line.
+abbrev pub StopOf : Night → (number place : ℕ) → Type 0
+StopOf Begun number place = ((number ≡ 9) ⊎ (number ≡ 19)) × (place ≡ 1)
+StopOf (Rated night) number place = StopAt (night .breath) number place
+
 -- An end of a recording: a stop is one of those that it can cause, at the line that comes next.
 abbrev pub StopIn : Night → Outcome Bool → Type 0
-StopIn night (stop number place) = StopAt (night .line) number place
+StopIn night (stop number place) = StopOf night number place
 StopIn night (done whole) = Unit {0}
 
 -- It uses no more bytes than there are, its text has room, and the night behind it and its end are those of a recording.
 pub record Sound (bs : List ℕ) (room : ℕ) (l : ListedPiece) : Type 0 where
   pub used : l .used ≤ length bs
   pub fits : length (l .text) ≤ room
-  pub real : Real (l .night)
+  pub real : RealNight (l .night)
   pub stops : StopIn (l .night) (endOutcome (l .end))
 
-sound-endsHere : (bs : List ℕ) (room : ℕ) (night : Night) (text : List ℕ) (end : End) → Real night → length text ≤ room → StopIn night (endOutcome end) → Sound bs room (endsHere night text end)
+sound-endsHere : (bs : List ℕ) (room : ℕ) (night : Night) (text : List ℕ) (end : End) → RealNight night → length text ≤ room → StopIn night (endOutcome end) → Sound bs room (endsHere night text end)
 unfolding endsHere
 sound-endsHere bs room night text end r h s = record { used = omega arith; fits = h; real = r; stops = s }
 
@@ -339,35 +441,53 @@ sound-lineThen bs room line used l u h s =
       stops = left-stops (l .night) used (l .end) (s .stops);
     }
 
-sound : (steps : ℕ) (night : Night) (bs : List ℕ) (last : Bool) (room : ℕ) → Real night → Sound bs room (pieceFrom steps night bs last room)
+sound : (steps : ℕ) (night : RatedNight) (bs : List ℕ) (last : Bool) (room : ℕ) → Real night → Sound bs room (pieceFrom steps night bs last room)
 unfolding pieceFrom
-sound zero night bs last room r = sound-endsHere bs room night [] Open r (omega arith) tt
+sound zero night bs last room r = sound-endsHere bs room (Rated night) [] Open r (omega arith) tt
 sound (suc steps) night bs last room r =
     pieces-case steps night bs last room (Sound bs room)
-    (λ t. sound-endsHere bs room night [] Open r (omega arith) tt)
+    (λ t. sound-endsHere bs room (Rated night) [] Open r (omega arith) tt)
     (λ t entry n. further-sound t entry n
-    (sound steps (withLine night (entry .breath)) (drop (entry .used) bs) last (room - length (breathLine (night .breath) (entry .breath))) (follows-real night r bs entry n)))
-    (λ t n. sound-endsHere bs room night (allLine (night .sums)) Closed r (omega (arith, sure-room bs last room t, last-length (night .sums) (r .proper))) tt)
-    (λ t number place n. sound-endsHere bs room night [] _ r (omega arith) (follows-stop (night .line) bs n))
+    (sound steps (withLine night (entry .breath)) (drop (entry .used) bs) last (room - length (breathLine (night .rate .ticks) (night .breath) (entry .breath))) (follows-real night r bs entry n)))
+    (λ t n. sound-endsHere bs room (Rated night) (allLine (night .sums)) Closed r (omega (arith, sure-room bs last room t, last-length (night .sums) (r .proper))) tt)
+    (λ t number place n. sound-endsHere bs room (Rated night) [] _ r (omega arith) (follows-stop (night .breath) bs n))
   where
-    further-sound : isSure bs last room ≡ true → (entry : Entry) → nextOf (night .line) bs ≡ done (aBreath entry)
-        → Sound (drop (entry .used) bs) (room - length (breathLine (night .breath) (entry .breath)))
-        (pieceFrom steps (withLine night (entry .breath)) (drop (entry .used) bs) last (room - length (breathLine (night .breath) (entry .breath))))
+    further-sound : isSure bs last room ≡ true → (entry : Entry) → nextOf (night .breath) bs ≡ done (aBreath entry)
+        → Sound (drop (entry .used) bs) (room - length (breathLine (night .rate .ticks) (night .breath) (entry .breath)))
+        (pieceFrom steps (withLine night (entry .breath)) (drop (entry .used) bs) last (room - length (breathLine (night .rate .ticks) (night .breath) (entry .breath))))
         → Sound bs room (further steps night bs last room entry)
     further-sound t entry n ih =
-        let line : List ℕ = breathLine (night .breath) (entry .breath) in
+        let line : List ℕ = breathLine (night .rate .ticks) (night .breath) (entry .breath) in
         let few : length line ≤ room = omega (arith, sure-room bs last room t, line-length night r (entry .breath)) in
-        sound-lineThen bs room line (entry .used) _ (follows-breath (night .line) bs entry n .1 .within) few ih
+        sound-lineThen bs room line (entry .used) _ (follows-breath (night .breath) bs entry n .1 .within) few ih
+
+sound-first : (bs : List ℕ) (last : Bool) (room : ℕ) → Sound bs room (pieceOf Begun bs last room)
+sound-first bs last room =
+    first-case bs last room (Sound bs room)
+    (λ t. sound-endsHere bs room Begun [] Open tt (omega arith) tt)
+    (λ t o e. rate-sound o e)
+    (λ t e. sound-endsHere bs room Begun (allLine noSums) Closed tt (omega (arith, sure-room bs last room t, last-length noSums (omega arith))) tt)
+    (λ t number place e. sound-endsHere bs room Begun [] _ tt (omega arith) (first-stopped bs e))
+  where
+    rate-sound : (o : Opening) → firstOf bs ≡ done (aRate o) → Sound bs room (afterRate bs last room o)
+    rate-sound o e =
+        let s : Sound (drop (o .used) bs) (room - 0) (pieceFrom 65537 (rated (o .rate)) (drop (o .used) bs) last room) =
+        subst (λ (n : ℕ). Sound (drop (o .used) bs) n (pieceFrom 65537 (rated (o .rate)) (drop (o .used) bs) last room)) (sym (sub-zero room))
+        (sound 65537 (rated (o .rate)) (drop (o .used) bs) last room (opened-real (o .rate)))
+        in
+        sound-lineThen bs room [] (o .used) _ (first-rated bs o e .0 .within) (omega arith) s
 
 pub piece-sound : (night : Night) (bs : List ℕ) (last : Bool) (room : ℕ) → isNight night ≡ true → Sound bs room (pieceOf night bs last room)
-piece-sound night bs last room e =
-    subst (Sound bs room) (sym (piece-is night bs last room e)) (sound (65538 - night .line) night bs last room (night-real night e))
+unfolding isNight
+piece-sound Begun bs last room e = sound-first bs last room
+piece-sound (Rated night) bs last room e =
+    subst (Sound bs room) (sym (rated-is night bs last room e)) (sound (65538 - night .breath) night bs last room (night-real night e))
 
 -- ---- that a piece goes on
 
 -- no line number falls
 abbrev Later : Night → ListedPiece → Type 0
-Later night l = night .line ≤ l .night .line
+Later night l = nextLine night ≤ nextLine (l .night)
 
 later-endsHere : (night : Night) (text : List ℕ) (end : End) → Later night (endsHere night text end)
 unfolding endsHere
@@ -377,28 +497,28 @@ later-lineThen : (night : Night) (line : List ℕ) (used : ℕ) (l : ListedPiece
 unfolding lineThen
 later-lineThen night line used l h = h
 
-later : (steps : ℕ) (night : Night) (bs : List ℕ) (last : Bool) (room : ℕ) → Later night (pieceFrom steps night bs last room)
+later : (steps : ℕ) (night : RatedNight) (bs : List ℕ) (last : Bool) (room : ℕ) → Later (Rated night) (pieceFrom steps night bs last room)
 unfolding pieceFrom
-later zero night bs last room = later-endsHere night [] Open
+later zero night bs last room = later-endsHere (Rated night) [] Open
 later (suc steps) night bs last room =
-    pieces-case steps night bs last room (Later night)
-    (λ t. later-endsHere night [] Open)
+    pieces-case steps night bs last room (Later (Rated night))
+    (λ t. later-endsHere (Rated night) [] Open)
     (λ t entry n. further-later entry
-    (later steps (withLine night (entry .breath)) (drop (entry .used) bs) last (room - length (breathLine (night .breath) (entry .breath)))))
-    (λ t n. later-endsHere night (allLine (night .sums)) Closed)
-    (λ t number place n. later-endsHere night [] _)
+    (later steps (withLine night (entry .breath)) (drop (entry .used) bs) last (room - length (breathLine (night .rate .ticks) (night .breath) (entry .breath)))))
+    (λ t n. later-endsHere (Rated night) (allLine (night .sums)) Closed)
+    (λ t number place n. later-endsHere (Rated night) [] _)
   where
     further-later : (entry : Entry)
-        → Later (withLine night (entry .breath)) (pieceFrom steps (withLine night (entry .breath)) (drop (entry .used) bs) last (room - length (breathLine (night .breath) (entry .breath))))
-        → Later night (further steps night bs last room entry)
-    further-later entry ih = later-lineThen night _ (entry .used) _ (omega (arith, ih, line-suc night (entry .breath)))
+        → Later (Rated (withLine night (entry .breath))) (pieceFrom steps (withLine night (entry .breath)) (drop (entry .used) bs) last (room - length (breathLine (night .rate .ticks) (night .breath) (entry .breath))))
+        → Later (Rated night) (further steps night bs last room entry)
+    further-later entry ih = later-lineThen (Rated night) _ (entry .used) _ (omega (arith, ih, breath-suc night (entry .breath)))
 
--- An open piece with room for a line listed a line, and used bytes; or it used none, and waits for bytes.
+-- An open piece with room for a line took a line, the rate line or a breath's, and used bytes; or it used none, and waits for bytes.
 abbrev pub GoesOn : (line : ℕ) (bs : List ℕ) (last : Bool) (used line′ : ℕ) → Type 0
 GoesOn line bs last used line′ = ((line < line′) × (1 ≤ used)) ⊎ ((used ≡ 0) × Waits bs last)
 
 abbrev IfOpen : (night : Night) (bs : List ℕ) (last : Bool) → ListedPiece → Type 0
-IfOpen night bs last l = l .end ≡ Open → GoesOn (night .line) bs last (l .used) (l .night .line)
+IfOpen night bs last l = l .end ≡ Open → GoesOn (nextLine night) bs last (l .used) (nextLine (l .night))
 
 -- an end that isn't open
 abbrev NotOpen : End → Type 0
@@ -416,28 +536,36 @@ module _ (night : Night) (bs : List ℕ) (last : Bool) where
   unfolding endsHere
   ends text end f o = absurd (subst NotOpen o f)
 
-  more-lineThen : (line : List ℕ) (used : ℕ) (l : ListedPiece) → 1 ≤ used → night .line < l .night .line → IfOpen night bs last (lineThen line used l)
+  more-lineThen : (line : List ℕ) (used : ℕ) (l : ListedPiece) → 1 ≤ used → nextLine night < nextLine (l .night) → IfOpen night bs last (lineThen line used l)
   unfolding lineThen
   more-lineThen line used l some h o = inl (h, omega arith)
 
-goes-on : (steps : ℕ) (night : Night) (bs : List ℕ) (last : Bool) (room : ℕ) → 33 ≤ room → IfOpen night bs last (pieceFrom (suc steps) night bs last room)
+goes-on : (steps : ℕ) (night : RatedNight) (bs : List ℕ) (last : Bool) (room : ℕ) → 33 ≤ room → IfOpen (Rated night) bs last (pieceFrom (suc steps) night bs last room)
 goes-on steps night bs last room h =
-    pieces-case steps night bs last room (IfOpen night bs last)
-    (λ t. waits night bs last (unsure bs last room h t))
+    pieces-case steps night bs last room (IfOpen (Rated night) bs last)
+    (λ t. waits (Rated night) bs last (unsure bs last room h t))
     (λ t entry n. further-on entry n)
-    (λ t n. ends night bs last (allLine (night .sums)) Closed tt)
-    (λ t number place n. ends night bs last [] _ tt)
+    (λ t n. ends (Rated night) bs last (allLine (night .sums)) Closed tt)
+    (λ t number place n. ends (Rated night) bs last [] _ tt)
   where
-    further-on : (entry : Entry) → nextOf (night .line) bs ≡ done (aBreath entry) → IfOpen night bs last (further steps night bs last room entry)
+    further-on : (entry : Entry) → nextOf (night .breath) bs ≡ done (aBreath entry) → IfOpen (Rated night) bs last (further steps night bs last room entry)
     further-on entry n =
         let b : Breath = entry .breath in
-        let grows = later steps (withLine night b) (drop (entry .used) bs) last (room - length (breathLine (night .breath) b)) in
-        more-lineThen night bs last _ (entry .used) _ (omega (arith, follows-breath (night .line) bs entry n .1 .ended)) (omega (arith, grows, line-suc night b))
+        let grows = later steps (withLine night b) (drop (entry .used) bs) last (room - length (breathLine (night .rate .ticks) (night .breath) b)) in
+        more-lineThen (Rated night) bs last _ (entry .used) _ (omega (arith, follows-breath (night .breath) bs entry n .1 .ended)) (omega (arith, grows, breath-suc night b))
 
 pub piece-on : (night : Night) (bs : List ℕ) (last : Bool) (room : ℕ) → isNight night ≡ true → 33 ≤ room → IfOpen night bs last (pieceOf night bs last room)
-piece-on night bs last room e h =
+unfolding isNight
+piece-on Begun bs last room e h =
+    first-case bs last room (IfOpen Begun bs last)
+    (λ t. waits Begun bs last (unsure bs last room h t))
+    (λ t o n. more-lineThen Begun bs last [] (o .used) _ (omega (arith, first-rated bs o n .0 .ended))
+    (omega (arith, opened-breath (o .rate), later 65537 (rated (o .rate)) (drop (o .used) bs) last room)))
+    (λ t n. ends Begun bs last (allLine noSums) Closed tt)
+    (λ t number place n. ends Begun bs last [] _ tt)
+piece-on (Rated night) bs last room e h =
     let r : Real night = night-real night e in
-    let step : 65538 - night .line ≡ suc (65537 - night .line) = omega (arith, r .few) in
-    subst (IfOpen night bs last)
-    (sym (piece-is night bs last room e ∙ ap (λ (n : ℕ). pieceFrom n night bs last room) step))
-    (goes-on (65537 - night .line) night bs last room h)
+    let step : 65538 - night .breath ≡ suc (65537 - night .breath) = omega (arith, r .few) in
+    subst (IfOpen (Rated night) bs last)
+    (sym (rated-is night bs last room e ∙ ap (λ (n : ℕ). pieceFrom n night bs last room) step))
+    (goes-on (65537 - night .breath) night bs last room h)

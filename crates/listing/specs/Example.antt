@@ -2,10 +2,11 @@
 use Prim.Native.Nat.{ℕ}
 use mathlib.Core.List.{List, [], _∷_, _++_}
 
--- 0 277 642, 4294967290 10 34 and 100 100 100, tab-parted, each ended by a line feed.
+-- rate 1024, 0 277 642, 4294967290 10 34 and 100 100 100, tab-parted, each ended by a line feed.
 unfoldable pub exampleRecording : List ℕ
 exampleRecording =
-    (48 ∷ 9 ∷ 50 ∷ 55 ∷ 55 ∷ 9 ∷ 54 ∷ 52 ∷ 50 ∷ 10 ∷ [])
+    (114 ∷ 97 ∷ 116 ∷ 101 ∷ 9 ∷ 49 ∷ 48 ∷ 50 ∷ 52 ∷ 10 ∷ [])
+    ++ (48 ∷ 9 ∷ 50 ∷ 55 ∷ 55 ∷ 9 ∷ 54 ∷ 52 ∷ 50 ∷ 10 ∷ [])
     ++ (52 ∷ 50 ∷ 57 ∷ 52 ∷ 57 ∷ 54 ∷ 55 ∷ 50 ∷ 57 ∷ 48 ∷ 9 ∷ 49 ∷ 48 ∷ 9 ∷ 51 ∷ 52 ∷ 10 ∷ [])
     ++ (49 ∷ 48 ∷ 48 ∷ 9 ∷ 49 ∷ 48 ∷ 48 ∷ 9 ∷ 49 ∷ 48 ∷ 48 ∷ 10 ∷ [])
 

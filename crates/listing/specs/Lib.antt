@@ -4,3 +4,5 @@ pub mod Listing
 pub mod Pieces
 -- The papers' example.
 pub mod Example
+-- For the code and the proofs alone.
+pub mod Steps

@@ -7,7 +7,7 @@ use lib.ListN.{drop, length, take}
 use lib.Dec.{leb, ltb}
 use Rattle.convergents.specs.Choice.{if_then_else_}
 use Rattle.slash.specs.Answers.{Outcome, stop, done, unnumbered}
-use Rattle.breaths.specs.Sums.{nightRatio, sumsOf, addSums}
+use Rattle.breaths.specs.Sums.{noSums, nightRatio, sumsOf, addSums}
 use Rattle.breaths.specs.Ratios.{BestRatio}
 use Rattle.breaths.specs.Breaths.{BestBreaths}
 use Rattle.breaths.specs.declared.breath.Breath.{Breath}
@@ -15,10 +15,13 @@ use Rattle.breaths.specs.declared.sums.Sums.{Sums}
 use Rattle.text.specs.Lines.{numbered, refusedLine, longestLine}
 use Rattle.text.specs.Scan.{lengthBefore}
 use Rattle.recording.specs.Lines.{mostBytes}
-use Rattle.recording.specs.Reading.{aBreath, theEnd, nextOf, linesFrom, breathsOn}
-use Rattle.listing.specs.Nights.{withLine, isNight}
+use Rattle.recording.specs.Openings.{Start, aRate, noLine, firstOf}
+use Rattle.recording.specs.Reading.{aBreath, theEnd, nextOf, linesFrom, breathsOn, rateIn, breathsIn}
+use Rattle.listing.specs.Nights.{rated, withLine, isRated, isNight, nextBreath, sumsSoFar}
 use Rattle.listing.specs.Listing.{breathLine, allLine, listingOn, ratiosOf}
 use Rattle.listing.specs.declared.night.Night.{Night}
+use Rattle.listing.specs.declared.night.Night.the-variants.{Begun, Rated}
+use Rattle.listing.specs.declared.night.RatedNight.{RatedNight}
 use Rattle.listing.specs.declared.piece.End.{End}
 use Rattle.listing.specs.declared.piece.End.the-variants.{Open, Closed, Refused, NoNight}
 use Rattle.listing.specs.declared.piece.Piece.{Piece}
@@ -56,23 +59,33 @@ lineThen line used l = record { text = line ++ l .text; used = used + l .used; n
 unfoldable pub isSure : List ℕ → (last : Bool) (room : ℕ) → Bool
 isSure bs last room = leb longestLine room && (last || (leb (suc mostBytes) (length bs) || ltb (lengthBefore 10 bs) (length bs)))
 
--- What is listed of some bytes from a night on, in so many steps.
-unfoldable pub pieceFrom : (steps : ℕ) → Night → List ℕ → (last : Bool) (room : ℕ) → ListedPiece
-pieceFrom zero night bs last room = endsHere night [] Open
+-- What is listed of some bytes from a night on whose rate is read, in so many steps.
+unfoldable pub pieceFrom : (steps : ℕ) → RatedNight → List ℕ → (last : Bool) (room : ℕ) → ListedPiece
+pieceFrom zero night bs last room = endsHere (Rated night) [] Open
 pieceFrom (suc steps) night bs last room =
     elim (isSure bs last room) [
-      | false ↦ endsHere night [] Open
-      | true ↦ elim (nextOf (night .line) bs) [
-        | done (aBreath entry) ↦ lineThen (breathLine (night .breath) (entry .breath)) (entry .used)
-            (pieceFrom steps (withLine night (entry .breath)) (drop (entry .used) bs) last (room - length (breathLine (night .breath) (entry .breath))))
-        | done theEnd ↦ endsHere night (allLine (night .sums)) Closed
-        | stop number place ↦ endsHere night [] (Refused (record { number = number; place = place }))
+      | false ↦ endsHere (Rated night) [] Open
+      | true ↦ elim (nextOf (night .breath) bs) [
+        | done (aBreath entry) ↦ lineThen (breathLine (night .rate .ticks) (night .breath) (entry .breath)) (entry .used)
+            (pieceFrom steps (withLine night (entry .breath)) (drop (entry .used) bs) last (room - length (breathLine (night .rate .ticks) (night .breath) (entry .breath))))
+        | done theEnd ↦ endsHere (Rated night) (allLine (night .sums)) Closed
+        | stop number place ↦ endsHere (Rated night) [] (Refused (record { number = number; place = place }))
       ]
     ]
 
--- Where the night is none of a recording, nothing is listed.
+unfoldable pub ratedPiece : RatedNight → List ℕ → (last : Bool) (room : ℕ) → ListedPiece
+ratedPiece night bs last room = pieceFrom (linesFrom (night .breath)) night bs last room
+
+-- The same by what a recording opens with: its rate line uses bytes, and lists nothing.
+unfoldable pub openedPiece : Outcome Start → List ℕ → (last : Bool) (room : ℕ) → ListedPiece
+openedPiece (done (aRate opening)) bs last room = lineThen [] (opening .used) (ratedPiece (rated (opening .rate)) (drop (opening .used) bs) last room)
+openedPiece (done noLine) bs last room = endsHere Begun (allLine noSums) Closed
+openedPiece (stop number place) bs last room = endsHere Begun [] (Refused (record { number = number; place = place }))
+
+-- What is listed of some bytes from a night on. Where the night is none of a recording, nothing is.
 unfoldable pub pieceOf : Night → List ℕ → (last : Bool) (room : ℕ) → ListedPiece
-pieceOf night bs last room = if isNight night then pieceFrom (linesFrom (night .line)) night bs last room else endsHere night [] NoNight
+pieceOf Begun bs last room = if isSure bs last room then openedPiece (firstOf bs) bs last room else endsHere Begun [] Open
+pieceOf (Rated night) bs last room = if isRated night then ratedPiece night bs last room else endsHere (Rated night) [] NoNight
 
 -- How a piece is answered: the text stands in the lent list, and its length is told.
 unfoldable pub answerOf : ListedPiece → Piece
@@ -101,9 +114,14 @@ MakesListing night bs last room =
 
 -- ---- demand 3 of a piece
 
--- The breaths that a piece lists: those of the bytes that it used.
-unfoldable pub breathsOf : Night → List ℕ → ListedPiece → List Breath
-breathsOf night bs l = breathsOn (night .line) (take (l .used) bs)
+-- The rate of a night, and the breaths, of the bytes that a piece used.
+unfoldable pub rateOf : Night → (used : List ℕ) → ℕ
+rateOf Begun used = rateIn used
+rateOf (Rated night) used = night .rate .ticks
+
+unfoldable pub breathsOf : Night → (used : List ℕ) → List Breath
+breathsOf Begun used = breathsIn used
+breathsOf (Rated night) used = breathsOn (night .breath) used
 
 -- What stands behind their lines: `all` where the recording ends.
 unfoldable pub endText : Sums → Outcome Bool → List ℕ
@@ -111,10 +129,14 @@ endText s (done false) = []
 endText s (done true) = allLine s
 endText s (stop number place) = []
 
--- A piece's text is the numbered lines of its breaths' ratios, and `all` at the end; the sums behind it are those before it and those of its breaths; and
--- the word of each breath that isn't void, and of all, is best for its N and D.
+-- From a night on, at a rate, a piece's text is the numbered lines of these breaths' ratios, and `all` at the end; and the sums behind it are those before
+-- it and those of the breaths.
+pub record Lists (night : Night) (rate : ℕ) (breaths : List Breath) (l : ListedPiece) : Type 0 where
+  pub lines : l .text ≡ numbered (nextBreath night) (ratiosOf rate breaths) ++ endText (sumsSoFar (l .night)) (endOutcome (l .end))
+  pub sums : sumsSoFar (l .night) ≡ addSums (sumsSoFar night) (sumsOf rate breaths)
+
+-- A piece lists the breaths of the bytes that it used; and the word of each breath that isn't void, and of all, is best for its N and D.
 pub record BestPiece (night : Night) (bs : List ℕ) (l : ListedPiece) : Type 0 where
-  pub lines : l .text ≡ numbered (night .breath) (ratiosOf (breathsOf night bs l)) ++ endText (l .night .sums) (endOutcome (l .end))
-  pub sums : l .night .sums ≡ addSums (night .sums) (sumsOf (breathsOf night bs l))
-  pub each : BestBreaths (breathsOf night bs l)
-  pub all : BestRatio (l .night .sums .inspiration) (l .night .sums .whole) (nightRatio (l .night .sums))
+  pub lists : Lists night (rateOf night (take (l .used) bs)) (breathsOf night (take (l .used) bs)) l
+  pub each : BestBreaths (rateOf night (take (l .used) bs)) (breathsOf night (take (l .used) bs))
+  pub all : BestRatio (sumsSoFar (l .night) .inspiration) (sumsSoFar (l .night) .whole) (nightRatio (sumsSoFar (l .night)))

@@ -5,6 +5,7 @@ mod piece;
 
 pub use listing::list;
 pub use night::Night;
+pub use night::RatedNight;
 pub use piece::End;
 pub use piece::Piece;
 pub use piece::list_piece;

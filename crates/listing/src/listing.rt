@@ -3,8 +3,7 @@ ghost use mathlib.Core.Path.{_≡_};
 ghost use Rattle.slash.specs.Answers.{answerOutcome};
 ghost use Rattle.text.specs.Stores.{lengthOf, listAfter};
 ghost use Rattle.listing.specs.Listing.{nightOutcome, BestNight};
-use crate::night::Night;
-use crate::piece::put_lines;
+use crate::piece::put_first;
 use recording::check;
 use slash::Answer;
 use slash::Completion;
@@ -17,9 +16,7 @@ pub fn list(recording: &[u8], listing: &mut [u8; 2162719]) -> Answer
     ensures best { λ _. ⌜ BestNight (now (recording .entry)) ⌝ }
 {
     match check(recording) {
-        Completion::Done => Answer::Done(
-            put_lines(Night::begun(), recording, true, listing).length as u64,
-        ),
+        Completion::Done => Answer::Done(put_first(recording, true, listing).length as u64),
         Completion::Stopped(stop) => Answer::Stopped(stop),
     }
 }

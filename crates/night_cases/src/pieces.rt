@@ -26,7 +26,7 @@ fn next_end(end: usize, most: usize) -> usize
 fn make(bytes: &[u8], listing: &[u8]) -> bool {
     // Room for two lines, so that it runs out too.
     let mut out = [0u8; 70];
-    let mut night = Night::begun();
+    let mut night = Night::Begun;
     let mut from = 0;
     let mut end = 0;
     let mut at = 0;
@@ -83,7 +83,7 @@ fn put_stop(end: End, out: &mut [u8], at: usize) -> usize
 // Stores the pieces of a recording one behind the other, and the line of its stop, and answers how
 // long they are.
 pub(crate) fn store(bytes: &[u8], out: &mut [u8]) -> usize {
-    let mut night = Night::begun();
+    let mut night = Night::Begun;
     let mut from = 0;
     let mut end = 0;
     let mut at = 0;

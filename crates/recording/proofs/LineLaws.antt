@@ -1,30 +1,30 @@
 -- Reading a line: digits, fields, the line. Assumes nothing.
--- `line-words`: a line is stopped with 9 where over 32 bytes stand before its line feed, or there is none, in the papers' words. `line-sound`: a
--- breath's line uses from 1 to 33 of the bytes, and its durations are below 2^32. `ended-line`: what follows a line feed doesn't change the line.
+-- `line-words`: a line is endless (9, of both kinds) where over 32 bytes stand before its line feed, or there is none, in the papers' words. `line-sound`: a
+-- breath's line uses from 1 to 33 of the bytes. `ended-line`, `ready-line`: what follows a line feed, or 33 bytes, doesn't change the line.
 use mathlib.Core.Path.{_≡_, refl, sym, ap, _∙_, subst}
-use mathlib.Core.Bool.{Bool, true, false, _&&_, _||_, and-false, or-true}
+use mathlib.Core.Bool.{Bool, true, false, _&&_, _||_, and-false, or-true, false≢true}
 use mathlib.Core.Logic.{_⊎_, inl, inr}
 use mathlib.Core.List.{List, [], _∷_, _++_, append-assoc, append-nil}
 use Prim.Native.Nat.{ℕ, suc, _+_, _-_, _*_, _^_, _≤_, _<_, min}
 use native.Mathlib.Omega.{arith}
-use native.Mathlib.Nat.{mod-lt, pow-suc, pow-le-pow-right}
+use native.Mathlib.Nat.{pow-suc, pow-le-pow-right}
 use native.Mathlib.Numerals.{add-one}
 use native.Mathlib.Decide.{decLe, ℕ-discrete}
 use lib.Dec.{eqb, leb, ltb}
 use lib.ListN.{length, getD, take, drop, length-append, length-take, length-drop}
-use lib.Seq.{take-append-le, split-at, take-suc, take-all, getD-drop}
-use borrow.Author.Tests.{eq-eqb, ne-eqb, le-leb, lt-leb, le-ltb, lt-ltb, leb-true}
+use lib.Seq.{take-append-le, take-append-seam, take-take, split-at, take-suc, take-all, getD-drop}
+use borrow.Author.Tests.{eq-eqb, ne-eqb, le-leb, lt-leb, le-ltb, lt-ltb, leb-true, leb-false}
 use Rattle.convergents.specs.Choice.{if_then_else_}
-use Rattle.breaths.specs.Breaths.{span, breathOf}
+use Rattle.breaths.specs.Breaths.{breathOf}
+use Rattle.breaths.proofs.RatioLaws.{or-parts}
 use Rattle.text.specs.Scan.{lengthBefore, isDigit, parted}
 use Rattle.text.proofs.ScanLaws.{before-le, before-take, before-taken, before-far, before-append}
 use Rattle.text.proofs.PartLaws.{behind, parted-none, parted-some, parted-at}
-use Rattle.recording.specs.Lines.{digitsFrom, readTick, fromTicks, fromFields, readLine}
+use Rattle.recording.specs.Lines.{digitsFrom, readTick, fromStart, fromTicks, fromFields, readLine}
 use Rattle.recording.specs.Steps.{LeadingDigits}
 use Rattle.breaths.specs.declared.breath.Breath.{Breath}
 use Rattle.recording.specs.declared.line.Tick.{Tick}
 use Rattle.recording.specs.declared.line.Tick.the-variants.{Good, Wrong}
-use Rattle.recording.specs.declared.line.Entry.{Entry}
 use Rattle.recording.specs.declared.line.Line.{Line}
 use Rattle.recording.specs.declared.line.Line.the-variants.{Read, Refused}
 
@@ -250,9 +250,7 @@ module _ (used : ℕ) (line : List ℕ) (i : ℕ) (ie : i ≡ lengthBefore 9 lin
 
 -- ---- a line
 
-pub line-within : (bs : List ℕ) (most k : ℕ) → k ≤ length (take most bs) → k ≤ length bs
-line-within bs most k h = omega (arith, length-take most bs)
-
+-- the first 33 bytes, as code has them
 module _ (bs : List ℕ) (most : ℕ) (me : most ≡ min 33 (length bs)) where
   head-is : take most bs ≡ take 33 bs
   head-is = go (decLe 33 (length bs))
@@ -261,41 +259,87 @@ module _ (bs : List ℕ) (most : ℕ) (me : most ≡ min 33 (length bs)) where
       go (yes h) = let e : most ≡ 33 = omega arith in ap (λ (n : ℕ). take n bs) e
       go (no h) = take-all most bs (omega arith) ∙ sym (take-all 33 bs (omega arith))
 
-  module _ (k : ℕ) (ke : k ≡ lengthBefore 10 (take most bs)) where
-    place : lengthBefore 10 (take 33 bs) ≡ k
-    place = sym (ke ∙ ap (lengthBefore 10) head-is)
+  pub length-is : (k : ℕ) → k ≡ lengthBefore 10 (take most bs) → k ≡ lengthBefore 10 (take 33 bs)
+  length-is k e = e ∙ ap (lengthBefore 10) head-is
 
-    pub line-none : k ≡ length (take most bs) → Refused 9 ≡ readLine bs
-    unfolding readLine
-    line-none e =
-        let h : length (take 33 bs) ≤ k = omega (arith, ap length head-is) in
-        rw (place, le-leb _ _ h) refl
+-- a line that ends, by the test of code
+pub line-shorter : (n k : ℕ) → (leb n k || leb 33 k) ≡ false → (k < n) × (k < 33)
+line-shorter n k h = let w = or-parts (leb n k) (leb 33 k) h in (leb-false _ _ (w .0), leb-false _ _ (w .1))
 
-    pub line-some : k < length (take most bs) → (r : Line) → r ≡ fromFields (k + 1) (parted 9 (take k bs)) → r ≡ readLine bs
-    unfolding readLine
-    line-some l r e =
-        let h : k < length (take 33 bs) = omega (arith, ap length head-is) in
-        e ∙ ap (λ (n : ℕ). fromFields n (parted 9 (take k bs))) (add-one k) ∙ rw (place, lt-leb _ _ h) refl
+module _ {A : Type 0} (endless : A) (from : ℕ → List (List ℕ) → A) (bs : List ℕ) where
+  start-none : length (take 33 bs) ≤ lengthBefore 10 (take 33 bs) → endless ≡ fromStart endless from bs
+  unfolding fromStart
+  start-none h = rw (le-leb _ _ h) refl
+
+  pub start-some : lengthBefore 10 (take 33 bs) < length (take 33 bs)
+      → from (suc (lengthBefore 10 (take 33 bs))) (parted 9 (take (lengthBefore 10 (take 33 bs)) bs)) ≡ fromStart endless from bs
+  unfolding fromStart
+  start-some h = rw (lt-leb _ _ h) refl
+
+  -- the test of code, and what it comes to
+  module _ (k : ℕ) (ke : k ≡ lengthBefore 10 (take 33 bs)) where
+    pub no-line : (leb (length bs) k || leb 33 k) ≡ true → endless ≡ fromStart endless from bs
+    no-line h = go (decLe (length (take 33 bs)) k)
+      where
+        go : Dec (length (take 33 bs) ≤ k) → endless ≡ fromStart endless from bs
+        go (yes l) = start-none (omega arith)
+        go (no l) =
+            let i : k < length bs = omega (arith, length-take 33 bs) in
+            let j : k < 33 = omega (arith, length-take 33 bs) in
+            let n : (leb (length bs) k || leb 33 k) ≡ false = rw (lt-leb _ _ i, lt-leb _ _ j) refl in
+            absurd (false≢true (sym n ∙ h))
+
+    pub a-line : (leb (length bs) k || leb 33 k) ≡ false → (r : A) → r ≡ from (k + 1) (parted 9 (take k bs)) → r ≡ fromStart endless from bs
+    a-line h r e =
+        let w = line-shorter (length bs) k h in
+        let l : lengthBefore 10 (take 33 bs) < length (take 33 bs) = omega (arith, w .0, w .1, length-take 33 bs) in
+        e ∙ ap (λ (n : ℕ). from n (parted 9 (take k bs))) (add-one k) ∙ ap (λ (n : ℕ). from (suc n) (parted 9 (take n bs))) ke ∙ start-some l
+
+-- the answers of `read_any`
+module _ (bs : List ℕ) (k : ℕ) (ke : k ≡ lengthBefore 10 (take 33 bs)) where
+  pub line-long : (leb (length bs) k || leb 33 k) ≡ true → Refused 9 ≡ readLine bs
+  unfolding readLine
+  line-long h = no-line (Refused 9) fromFields bs k ke h
+
+  pub line-read : (leb (length bs) k || leb 33 k) ≡ false → (r : Line) → r ≡ fromFields (k + 1) (parted 9 (take k bs)) → r ≡ readLine bs
+  unfolding readLine
+  line-read h r e = a-line (Refused 9) fromFields bs k ke h r e
+
+-- Bytes whose first line is there: a line feed, or 33 bytes.
+abbrev pub Ready : List ℕ → Type 0
+Ready bs = (33 ≤ length bs) ⊎ (lengthBefore 10 bs < length bs)
 
 -- ---- what holds of every line that is read
 
--- It uses from 1 to 33 of the bytes, and its durations are below 2^32; a stop's number has at most two digits.
--- A breath's line is what stands before the first line feed, and that; it has at most 33 bytes.
-pub record Whole (bs : List ℕ) (e : Entry) : Type 0 where
-  pub ended : e .used ≡ suc (lengthBefore 10 bs)
-  pub within : e .used ≤ length bs
-  pub short : e .used ≤ 33
-  pub small : e .breath .whole < 2 ^ 32
+-- It is what stands before the first line feed, and that, from 1 to 33 of the bytes.
+pub record Whole (bs : List ℕ) (used : ℕ) : Type 0 where
+  pub ended : used ≡ suc (lengthBefore 10 bs)
+  pub within : used ≤ length bs
+  pub short : used ≤ 33
 
+-- what holds of a line that ends, whatever its fields, and of one that doesn't
+pub start-case : {A : Type 0} (P : A → Type 0) (endless : A) (from : ℕ → List (List ℕ) → A) (bs : List ℕ) → P endless
+    → ((used : ℕ) → Whole bs used → (fields : List (List ℕ)) → P (from used fields)) → P (fromStart endless from bs)
+start-case P endless from bs none some = go (decLe (length (take 33 bs)) (lengthBefore 10 (take 33 bs)))
+  where
+    go : Dec (length (take 33 bs) ≤ lengthBefore 10 (take 33 bs)) → P (fromStart endless from bs)
+    go (yes h) = subst P (start-none endless from bs h) none
+    go (no h) =
+        let k : ℕ = lengthBefore 10 (take 33 bs) in
+        let l : k < length (take 33 bs) = omega arith in
+        let t = length-take 33 bs in
+        let w : Whole bs (suc k) = record { ended = ap suc (before-taken 10 33 bs l); within = omega (arith, l, t); short = omega (arith, l, t) } in
+        subst P (start-some endless from bs l) (some (suc k) w (parted 9 (take k bs)))
+
+-- a breath's line: a stop is one of 9 to 11
 abbrev pub Sound : List ℕ → Line → Type 0
-Sound bs (Read e) = Whole bs e
+Sound bs (Read e) = Whole bs (e .used)
 Sound bs (Refused stop) = (9 ≤ stop) × (stop ≤ 11)
 
-module _ (bs : List ℕ) (used : ℕ) (ended : used ≡ suc (lengthBefore 10 bs)) (within : used ≤ length bs) (short : used ≤ 33) where
+module _ (bs : List ℕ) (used : ℕ) (w : Whole bs used) where
   ticks-sound : (onset peak next : Tick) → Sound bs (fromTicks used onset peak next)
-  unfolding fromTicks breathOf span
-  ticks-sound (Good o) (Good p) (Good n) =
-      record { ended = ended; within = within; short = short; small = mod-lt (n + (2 ^ 32 - o)) (omega arith) }
+  unfolding fromTicks
+  ticks-sound (Good o) (Good p) (Good n) = w
   ticks-sound Wrong p n = (omega arith, omega arith)
   ticks-sound (Good o) Wrong n = (omega arith, omega arith)
   ticks-sound (Good o) (Good p) Wrong = (omega arith, omega arith)
@@ -308,62 +352,68 @@ module _ (bs : List ℕ) (used : ℕ) (ended : used ≡ suc (lengthBefore 10 bs)
   fields-sound (x ∷ y ∷ z ∷ []) = ticks-sound (readTick x) (readTick y) (readTick z)
   fields-sound (x ∷ y ∷ z ∷ v ∷ more) = (omega arith, omega arith)
 
-module _ (bs : List ℕ) where
-  line-nine : length (take 33 bs) ≤ lengthBefore 10 (take 33 bs) → Refused 9 ≡ readLine bs
-  unfolding readLine
-  line-nine h = rw (le-leb _ _ h) refl
+pub line-sound : (bs : List ℕ) → Sound bs (readLine bs)
+unfolding readLine
+line-sound bs = start-case (Sound bs) (Refused 9) fromFields bs (omega arith, omega arith) (λ used w fields. fields-sound bs used w fields)
 
-  pub line-read : lengthBefore 10 (take 33 bs) < length (take 33 bs)
-      → fromFields (suc (lengthBefore 10 (take 33 bs))) (parted 9 (take (lengthBefore 10 (take 33 bs)) bs)) ≡ readLine bs
-  unfolding readLine
-  line-read h = rw (lt-leb _ _ h) refl
+-- ---- the paper's words for stop 9, and the bytes that follow
 
-  pub line-sound : Sound bs (readLine bs)
-  line-sound = go (decLe (length (take 33 bs)) (lengthBefore 10 (take 33 bs)))
+module _ {A : Type 0} (endless : A) (from : ℕ → List (List ℕ) → A) where
+  -- A line is endless (9, of both kinds) where over 32 bytes stand before its line feed, or there is none.
+  pub line-words : (bs : List ℕ)
+      → fromStart endless from bs
+      ≡ (if eqb (lengthBefore 10 bs) (length bs) || ltb 32 (lengthBefore 10 bs) then endless
+      else from (suc (lengthBefore 10 bs)) (parted 9 (take (lengthBefore 10 bs) bs)))
+  unfolding fromStart
+  line-words bs = go (lengthBefore 10 bs) refl (decLe 33 (lengthBefore 10 bs)) (ℕ-discrete (lengthBefore 10 bs) (length bs))
     where
-      go : Dec (length (take 33 bs) ≤ lengthBefore 10 (take 33 bs)) → Sound bs (readLine bs)
-      go (yes h) = let nine : (9 ≤ 9) × (9 ≤ 11) = (omega arith, omega arith) in subst (Sound bs) (line-nine h) nine
-      go (no h) =
-          let k : ℕ = lengthBefore 10 (take 33 bs) in
-          let l : k < length (take 33 bs) = omega arith in
-          let t = length-take 33 bs in
-          let e : suc k ≡ suc (lengthBefore 10 bs) = ap suc (before-taken 10 33 bs l) in
-          subst (Sound bs) (line-read l) (fields-sound bs (suc k) e (omega (arith, l, t)) (omega (arith, l, t)) (parted 9 (take k bs)))
-
--- ---- the paper's words for stop 9
-
-module _ (bs : List ℕ) where
-  abbrev K : ℕ
-  K = lengthBefore 10 bs
-
-  -- A line is stopped with 9 where over 32 bytes stand before its line feed, or there is none.
-  pub line-words : readLine bs ≡ (if eqb K (length bs) || ltb 32 K then Refused 9 else fromFields (suc K) (parted 9 (take K bs)))
-  unfolding readLine
-  line-words = go (decLe 33 K) (ℕ-discrete K (length bs))
-    where
-      go : Dec (33 ≤ K) → Dec (K ≡ length bs)
-          → readLine bs ≡ (if eqb K (length bs) || ltb 32 K then Refused 9 else fromFields (suc K) (parted 9 (take K bs)))
-      go (yes l) e =
+      go : (K : ℕ) → lengthBefore 10 bs ≡ K → Dec (33 ≤ lengthBefore 10 bs) → Dec (lengthBefore 10 bs ≡ length bs)
+          → fromStart endless from bs
+          ≡ (if eqb (lengthBefore 10 bs) (length bs) || ltb 32 (lengthBefore 10 bs) then endless
+          else from (suc (lengthBefore 10 bs)) (parted 9 (take (lengthBefore 10 bs) bs)))
+      go K k (yes l) e =
           let i : length (take 33 bs) ≤ lengthBefore 10 (take 33 bs) = omega (arith, before-far 10 33 bs l, length-take 33 bs) in
-          rw (le-leb _ _ i, lt-ltb 32 K l, or-true) refl
-      go (no l) (yes e) =
-          let n : lengthBefore 10 (take 33 bs) ≡ K = before-take 10 33 bs (omega arith) in
-          let i : length (take 33 bs) ≤ K = omega (arith, length-take 33 bs) in
+          rw (le-leb _ _ i, lt-ltb 32 (lengthBefore 10 bs) l, or-true) refl
+      go K k (no l) (yes e) =
+          let n : lengthBefore 10 (take 33 bs) ≡ lengthBefore 10 bs = before-take 10 33 bs (omega arith) in
+          let i : length (take 33 bs) ≤ lengthBefore 10 bs = omega (arith, length-take 33 bs) in
           rw (n, le-leb _ _ i, eq-eqb _ _ e) refl
-      go (no l) (no e) =
-          let n : lengthBefore 10 (take 33 bs) ≡ K = before-take 10 33 bs (omega arith) in
-          let i : K < length (take 33 bs) = omega (arith, length-take 33 bs, before-le 10 bs) in
-          let j : K ≤ 32 = omega arith in
+      go K k (no l) (no e) =
+          let n : lengthBefore 10 (take 33 bs) ≡ lengthBefore 10 bs = before-take 10 33 bs (omega arith) in
+          let i : lengthBefore 10 bs < length (take 33 bs) = omega (arith, length-take 33 bs, before-le 10 bs) in
+          let j : lengthBefore 10 bs ≤ 32 = omega arith in
           rw (n, lt-leb _ _ i, ne-eqb _ _ e, le-ltb _ _ j) refl
 
--- What follows a line feed doesn't change the line.
-pub ended-line : (bs more : List ℕ) → lengthBefore 10 bs < length bs → readLine (bs ++ more) ≡ readLine bs
-ended-line bs more l =
-    let k : lengthBefore 10 (bs ++ more) ≡ lengthBefore 10 bs = before-append 10 bs more l in
-    let far : lengthBefore 10 bs ≡ length (bs ++ more) → ⊥ = λ e. omega (arith, length-append bs more) in
-    let near : lengthBefore 10 bs ≡ length bs → ⊥ = λ e. omega arith in
-    let same : take (lengthBefore 10 bs) (bs ++ more) ≡ take (lengthBefore 10 bs) bs = take-append-le (lengthBefore 10 bs) bs more (omega arith) in
-    let line : Line = if ltb 32 (lengthBefore 10 bs) then Refused 9 else fromFields (suc (lengthBefore 10 bs)) (parted 9 (take (lengthBefore 10 bs) bs)) in
-    let there : readLine (bs ++ more) ≡ line = rw (line-words (bs ++ more), k, ne-eqb _ _ far, same) refl in
-    let here : readLine bs ≡ line = rw (line-words bs, ne-eqb _ _ near) refl in
-    there ∙ sym here
+  -- What follows a line feed doesn't change the line.
+  pub ended-line : (bs more : List ℕ) → lengthBefore 10 bs < length bs → fromStart endless from (bs ++ more) ≡ fromStart endless from bs
+  ended-line bs more l =
+      let k : lengthBefore 10 (bs ++ more) ≡ lengthBefore 10 bs = before-append 10 bs more l in
+      let far : lengthBefore 10 bs ≡ length (bs ++ more) → ⊥ = λ e. omega (arith, length-append bs more) in
+      let near : lengthBefore 10 bs ≡ length bs → ⊥ = λ e. omega arith in
+      let same : take (lengthBefore 10 bs) (bs ++ more) ≡ take (lengthBefore 10 bs) bs = take-append-le (lengthBefore 10 bs) bs more (omega arith) in
+      let line : A = if ltb 32 (lengthBefore 10 bs) then endless else from (suc (lengthBefore 10 bs)) (parted 9 (take (lengthBefore 10 bs) bs)) in
+      let there : fromStart endless from (bs ++ more) ≡ line = rw (line-words (bs ++ more), k, ne-eqb _ _ far, same) refl in
+      let here : fromStart endless from bs ≡ line = rw (line-words bs, ne-eqb _ _ near) refl in
+      there ∙ sym here
+
+  -- what stands behind a line's first 33 bytes doesn't count for it
+  line-prefix : (m : ℕ) (bs : List ℕ) → 33 ≤ m → fromStart endless from (take m bs) ≡ fromStart endless from bs
+  unfolding fromStart
+  line-prefix m bs h =
+      let k : ℕ = lengthBefore 10 (take 33 bs) in
+      let few : k ≤ m = omega (arith, before-le 10 (take 33 bs), length-take 33 bs) in
+      rw (take-take 33 m bs h, take-take k m bs few) refl
+
+  pub ready-line : (bs more : List ℕ) → Ready bs → fromStart endless from (bs ++ more) ≡ fromStart endless from bs
+  ready-line bs more (inl long) = sym (line-prefix (length bs) (bs ++ more) long) ∙ ap (fromStart endless from) (take-append-seam bs more)
+  ready-line bs more (inr l) = ended-line bs more l
+
+pub ready-some : (bs : List ℕ) → Ready bs → 1 ≤ length bs
+ready-some bs (inl long) = omega arith
+ready-some bs (inr l) = omega arith
+
+-- the bytes of a line that is read are there
+pub whole-ready : (bs : List ℕ) (used m : ℕ) → Whole bs used → used ≤ m → Ready (take m bs)
+whole-ready bs used m w h =
+    let there : lengthBefore 10 (take m bs) ≡ lengthBefore 10 bs = before-take 10 m bs (omega (arith, w .ended)) in
+    inr (omega (arith, there, length-take m bs, w .ended, w .within))

@@ -19,12 +19,12 @@ use Rattle.recording.specs.Steps.{LeadingDigits, TickAt, BreathFound, Di
 use Rattle.breaths.specs.declared.breath.Breath.{Breath}
 use Rattle.recording.specs.declared.line.Tick.the-variants.{Good}
 use Rattle.recording.specs.declared.line.Entry.{Entry}
-use Rattle.recording.specs.declared.line.Line.the-variants.{Read}
+use Rattle.recording.specs.declared.line.Line.the-variants.{Read, Refused}
 use Rattle.recording.specs.declared.line.Pass.{Pass}
 use Rattle.recording.specs.declared.line.Pass.the-variants as Pass
 use Rattle.text.proofs.ScanLaws.{before-step, before-le, before-take}
 use Rattle.text.proofs.PartLaws.{parted-step, parted-none}
-use Rattle.recording.proofs.LineLaws.{Leading, leading-start, leading-end, leading-low, leading-high, leading-next, digits-step, no-tick, digit-bounds, tick-digits, leading-tick, line-read}
+use Rattle.recording.proofs.LineLaws.{Leading, leading-start, leading-end, leading-low, leading-high, leading-next, digits-step, no-tick, digit-bounds, tick-digits, leading-tick, start-some}
 
 -- ---- a tick mark and the byte that ends it
 
@@ -155,6 +155,7 @@ module _ {bs : List ℕ} {o p n i j k : ℕ} (x : TickAt bs 0 9 o i) (y : TickAt
   ticks used = rw (x .tick, y .tick, z .tick) refl
 
   pub breath-read : (b : Breath) → b ≡ breathOf o p n → Read (record { breath = b; used = k }) ≡ readLine bs
+  unfolding readLine
   breath-read b be =
       let short : k ≤ 33 = omega (arith, x .short, y .short, z .short) in
       let few : lengthBefore 10 (take 33 bs) ≡ length line = before-take 10 33 bs (omega (arith, feed, line-length)) ∙ feed in
@@ -162,7 +163,7 @@ module _ {bs : List ℕ} {o p n i j k : ℕ} (x : TickAt bs 0 9 o i) (y : TickAt
       let within : lengthBefore 10 (take 33 bs) < length (take 33 bs) = omega (arith, few, long, line-length, length-take 33 bs) in
       let taken : take (length line) bs ≡ line = ap (take (length line)) as-line ∙ take-at line (10 ∷ z .rest) (length line) refl in
       sym (
-      sym (line-read bs within)
+      sym (start-some (Refused 9) fromFields bs within)
       ∙ ap (λ (m : ℕ). fromFields (suc m) (parted 9 (take m bs))) few
       ∙ ap (λ (l : List ℕ). fromFields (suc (length line)) (parted 9 l)) taken
       ∙ ap (fromFields (suc (length line))) three-fields

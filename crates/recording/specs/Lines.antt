@@ -1,4 +1,4 @@
--- A line of a recording: onset, peak, next onset.
+-- A line of a recording: its fields; a breath's: onset, peak, next onset.
 use Prim.Native.Nat.{ℕ, suc, _+_, _-_, _*_}
 use mathlib.Core.Bool.{true, false, _&&_}
 use mathlib.Core.List.{List, [], _∷_}
@@ -27,6 +27,19 @@ readTick (x ∷ xs) = if eqb x 48 && ltb 0 (length xs) then Wrong else digitsFro
 
 -- ---- a line
 
+-- A line has at most so many bytes before its line feed.
+abbrev pub mostBytes : ℕ
+mostBytes = 32
+
+-- The line at the start of some bytes: what its fields come to, with how many bytes it uses, its line feed (byte 10) included; or what it comes to
+-- where over 32 bytes stand before the line feed, or there is none.
+unfoldable pub fromStart : {A : Type 0} → (endless : A) → (fromFields : (used : ℕ) → List (List ℕ) → A) → List ℕ → A
+fromStart endless fromFields bs =
+    let before : ℕ = lengthBefore 10 (take (suc mostBytes) bs) in
+    if leb (length (take (suc mostBytes) bs)) before then endless else fromFields (suc before) (parted 9 (take before bs))
+
+-- ---- a breath's line
+
 -- Stop 11: a field is not such a number.
 unfoldable pub fromTicks : (used : ℕ) → (onset peak next : Tick) → Line
 fromTicks used (Good onset) (Good peak) (Good next) = Read (record { breath = breathOf onset peak next; used = used })
@@ -42,13 +55,7 @@ fromFields used (x ∷ y ∷ []) = Refused 10
 fromFields used (x ∷ y ∷ z ∷ []) = fromTicks used (readTick x) (readTick y) (readTick z)
 fromFields used (x ∷ y ∷ z ∷ v ∷ more) = Refused 10
 
--- A line has at most so many bytes before its line feed.
-abbrev pub mostBytes : ℕ
-mostBytes = 32
-
--- The line at the start of some bytes: its breath, and how many bytes it uses, its line feed (byte 10) included. Stop 9: over 32 bytes
--- before the line feed, or no line feed.
+-- The breath's line at the start of some bytes: its breath, and how many bytes it uses. Stop 9: over 32 bytes before the line feed, or no
+-- line feed.
 unfoldable pub readLine : List ℕ → Line
-readLine bs =
-    let before : ℕ = lengthBefore 10 (take (suc mostBytes) bs) in
-    if leb (length (take (suc mostBytes) bs)) before then Refused 9 else fromFields (suc before) (parted 9 (take before bs))
+readLine bs = fromStart (Refused 9) fromFields bs

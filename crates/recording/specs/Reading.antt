@@ -1,5 +1,7 @@
--- A recording line by line: what comes next, its breaths, and whether a line stops it.
+-- A recording line by line: what comes next, its rate and its breaths, and whether a line stops it.
 use Prim.Native.Nat.{ℕ, zero, suc, _-_, _≤_}
+use mathlib.Core.Path.{_≡_}
+use mathlib.Core.Logic.{_⊎_}
 use mathlib.Core.List.{List, [], _∷_}
 use lib.Dec.{ltb}
 use lib.ListN.{drop}
@@ -8,6 +10,7 @@ use Rattle.slash.specs.Answers.{Outcome, stop, done, _then_}
 use Rattle.breaths.specs.Sums.{mostBreaths}
 use Rattle.breaths.specs.declared.breath.Breath.{Breath}
 use Rattle.recording.specs.Lines.{readLine}
+use Rattle.recording.specs.Openings.{aRate, noLine, firstOf}
 use Rattle.recording.specs.declared.line.Entry.{Entry}
 use Rattle.recording.specs.declared.line.Line.{Line}
 use Rattle.recording.specs.declared.line.Line.the-variants as Line
@@ -32,57 +35,64 @@ unfoldable pub fromLine : (line : ℕ) → Line → Outcome Coming
 fromLine line (Line.Read entry) = done (aBreath entry)
 fromLine line (Line.Refused number) = stop number line
 
--- One line a breath.
-abbrev pub mostLines : ℕ
-mostLines = mostBreaths
+-- What comes next, where the next breath has this number, from the bytes not yet read. Its line is one further: the rate line comes first. Where
+-- there are no bytes, the recording ends. Stop 8: breath 65,537 begins.
+unfoldable pub nextOf : (breath : ℕ) → List ℕ → Outcome Coming
+nextOf breath [] = done theEnd
+nextOf breath (b ∷ bs) = if ltb mostBreaths breath then stop 8 (suc breath) else fromLine (suc breath) (readLine (b ∷ bs))
 
--- What comes next, at a line, from the bytes not yet read. Where there are none, the recording ends, at line 1 too: a night with nothing in
--- it. Stop 8: line 65,537 begins.
-unfoldable pub nextOf : (line : ℕ) → List ℕ → Outcome Coming
-nextOf line [] = done theEnd
-nextOf line (b ∷ bs) = if ltb mostLines line then stop 8 line else fromLine line (readLine (b ∷ bs))
+-- ---- all that comes behind the rate line
 
--- ---- all that comes
-
--- The breaths from a line on, up to the end or the first bad line, in so many steps: a step is a line.
-unfoldable pub breathsFrom : (steps line : ℕ) → List ℕ → List Breath
-breathsFrom zero line bs = []
-breathsFrom (suc steps) line bs =
-    elim (nextOf line bs) [
-      | done (aBreath entry) ↦ entry .breath ∷ breathsFrom steps (suc line) (drop (entry .used) bs)
+-- The breaths from a breath's number on, up to the end or the first bad line, in so many steps: a step is a line.
+unfoldable pub breathsFrom : (steps breath : ℕ) → List ℕ → List Breath
+breathsFrom zero breath bs = []
+breathsFrom (suc steps) breath bs =
+    elim (nextOf breath bs) [
+      | done (aBreath entry) ↦ entry .breath ∷ breathsFrom steps (suc breath) (drop (entry .used) bs)
       | done theEnd ↦ []
       | stop number place ↦ []
     ]
 
 -- The first bad line stops, with its number and line and nothing more.
-unfoldable pub checkFrom : (steps line : ℕ) → List ℕ → Outcome (Unit {0})
-checkFrom zero line bs = done tt
-checkFrom (suc steps) line bs =
-    nextOf line bs then λ x.
-    elim x [ aBreath entry ↦ checkFrom steps (suc line) (drop (entry .used) bs) | theEnd ↦ done tt ]
+unfoldable pub checkFrom : (steps breath : ℕ) → List ℕ → Outcome (Unit {0})
+checkFrom zero breath bs = done tt
+checkFrom (suc steps) breath bs =
+    nextOf breath bs then λ x.
+    elim x [ aBreath entry ↦ checkFrom steps (suc breath) (drop (entry .used) bs) | theEnd ↦ done tt ]
 
--- How many lines there can be from a line on: line 65,537 ends every recording. So many steps are enough (proved: `breaths-steps`,
+-- How many lines there can be from a breath's number on: breath 65,537 ends every recording. So many steps are enough (proved: `breaths-steps`,
 -- `check-steps`).
 abbrev pub linesFrom : ℕ → ℕ
-linesFrom line = suc (suc mostLines) - line
+linesFrom breath = suc (suc mostBreaths) - breath
 
-unfoldable pub breathsOn : (line : ℕ) → List ℕ → List Breath
-breathsOn line bs = breathsFrom (linesFrom line) line bs
+unfoldable pub breathsOn : (breath : ℕ) → List ℕ → List Breath
+breathsOn breath bs = breathsFrom (linesFrom breath) breath bs
+
+unfoldable pub checkOn : (breath : ℕ) → List ℕ → Outcome (Unit {0})
+checkOn breath bs = checkFrom (linesFrom breath) breath bs
+
+-- ---- the whole recording
+
+-- The rate of a recording; 0 where it has none, and so no breaths.
+unfoldable pub rateIn : List ℕ → ℕ
+rateIn bs = elim (firstOf bs) [ done (aRate opening) ↦ opening .rate .ticks | done noLine ↦ 0 | stop number place ↦ 0 ]
 
 -- The breaths of a recording.
 unfoldable pub breathsIn : List ℕ → List Breath
-breathsIn bs = breathsOn 1 bs
+breathsIn bs = elim (firstOf bs) [ done (aRate opening) ↦ breathsOn 1 (drop (opening .used) bs) | done noLine ↦ [] | stop number place ↦ [] ]
 
 -- What reading a recording through comes to.
 unfoldable pub recordingCheck : List ℕ → Outcome (Unit {0})
-recordingCheck bs = checkFrom (linesFrom 1) 1 bs
+recordingCheck bs =
+    firstOf bs then λ x.
+    elim x [ aRate opening ↦ checkOn 1 (drop (opening .used) bs) | noLine ↦ done tt ]
 
 -- ---- which stops there are
 
--- The numbers of the stops that a recording can cause. (12, that there is no line, is reserved and never occurs: proved, `never-12`.)
-abbrev pub StopNumber : ℕ → Type 0
-StopNumber number = (8 ≤ number) × (number ≤ 11)
-
--- And their lines (proved: `check-stops`).
+-- The stops that a recording can cause, each at its lines (proved: `check-stops`): 9 and 19 at line 1, 9 to 11 at the line of a breath, 8 at that of
+-- breath 65,537. (12, that there is no line, is reserved and never occurs: proved, `never-12`.)
 abbrev pub RecordingStop : (number place : ℕ) → Type 0
-RecordingStop number place = StopNumber number × (1 ≤ place) × (place ≤ suc mostLines)
+RecordingStop number place =
+    (((number ≡ 9) ⊎ (number ≡ 19)) × (place ≡ 1))
+    ⊎ ((((9 ≤ number) × (number ≤ 11)) × ((2 ≤ place) × (place ≤ suc mostBreaths)))
+    ⊎ ((number ≡ 8) × (place ≡ suc (suc mostBreaths))))

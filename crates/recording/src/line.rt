@@ -1,8 +1,8 @@
-// A line of a recording: three tick marks parted by tabs.
+// A breath's line of a recording: three tick marks parted by tabs; and where any line ends.
 ghost use mathlib.Core.Path.{_≡_};
 ghost use Prim.Native.Nat.{_+_, _≤_, min};
-ghost use lib.ListN.{length};
-ghost use Rattle.text.specs.Scan.{parted};
+ghost use lib.ListN.{length, take};
+ghost use Rattle.text.specs.Scan.{lengthBefore, parted};
 ghost use Rattle.recording.specs.Lines.{digitsFrom, readTick, fromTicks, fromFields, readLine};
 ghost use Rattle.recording.specs.Steps.{LeadingDigits, TickFound, BreathFound};
 use crate::stop;
@@ -13,7 +13,7 @@ use text::length_before;
 pub const LONGEST_LINE: usize = 33;
 
 // The largest tick mark.
-pub const MOST_TICKS: u64 = 4294967295;
+const MOST_TICKS: u64 = 4294967295;
 
 // The most digits of a tick mark.
 const MOST_DIGITS: usize = 10;
@@ -30,7 +30,7 @@ pub struct Entry {
     pub used: usize,
 }
 
-// What a line says: a breath, or the number of a stop.
+// What a breath's line says: a breath, or the number of a stop.
 pub(crate) enum Line {
     Read(Entry),
     Refused(u32),
@@ -87,7 +87,7 @@ fn read_digits(digits: &[u8]) -> Tick
     Tick::Good(d.value as u32)
 }
 
-fn read_tick(field: &[u8]) -> Tick
+pub(crate) fn read_tick(field: &[u8]) -> Tick
     ensures { λ r. ⌜ r ≡ readTick (now (field .entry)) ⌝ }
 {
     if field.len() == 0 {
@@ -154,14 +154,21 @@ fn min(a: usize, b: usize) -> usize
     if a < b { a } else { b }
 }
 
-// The line at the start of some bytes, whatever is wrong with it.
+// How many bytes stand before the line feed at the start of some bytes; as many as there are, or as the
+// longest line has, where it isn't among them.
+pub(crate) fn line_length(bytes: &[u8]) -> usize
+    ensures { λ r. ⌜ r ≡ lengthBefore 10 (take 33 (now (bytes .entry))) ⌝ }
+{
+    let most = min(bytes.len(), LONGEST_LINE);
+    length_before(&bytes[..most], b'\n')
+}
+
+// The breath's line at the start of some bytes, whatever is wrong with it.
 pub(crate) fn read_any(bytes: &[u8]) -> Line
     ensures { λ r. ⌜ r ≡ readLine (now (bytes .entry)) ⌝ }
 {
-    let most = min(bytes.len(), LONGEST_LINE);
-    let head = &bytes[..most];
-    let k = length_before(head, b'\n');
-    if k == head.len() {
+    let k = line_length(bytes);
+    if (bytes.len() <= k) | (LONGEST_LINE <= k) {
         return Line::Refused(stop::LONG);
     }
     read_fields(k + 1, &bytes[..k])

@@ -1,7 +1,7 @@
-// The numbers of the stops that a recording can cause.
+// The numbers of the stops that a recording can cause, but 19, which is `Rate::REFUSED`.
 
-// Line 65,537 begins.
-pub(crate) const LINES: u32 = 8;
+// Breath 65,537 begins.
+pub(crate) const BREATHS: u32 = 8;
 
 // Over 32 bytes before the line feed, or no line feed.
 pub(crate) const LONG: u32 = 9;

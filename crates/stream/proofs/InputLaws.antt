@@ -1,5 +1,5 @@
 -- Bytes read behind those that a buffer has, and moved to its front. Assumes nothing.
--- `turn-listed`, `turn-read`: a turn that lists a line, or reads on, leaves fewer turns. `moving-end`: the bytes not used stand at the front.
+-- `turn-listed`, `turn-read`: a turn that takes a line, or reads on, leaves fewer turns. `moving-end`: the bytes not used stand at the front.
 use mathlib.Core.Path.{_≡_, refl, sym, ap, _∙_}
 use mathlib.Core.Bool.{Bool, true, false}
 use mathlib.Core.Logic.{⊎-elim}
@@ -25,13 +25,13 @@ below a b h = omega arith
 pub grown : (filled n : ℕ) → (eqb n 0 ≡ false → filled < filled + n) × (filled ≤ filled + n)
 grown filled n = (λ e. let some : n ≡ 0 → ⊥ = eqb-false _ _ e in omega arith, omega arith)
 
--- one more than the turns that are left: a turn lists a line, or reads bytes of one, or finds the end
+-- one more than the turns that are left: a turn takes a line, or reads bytes of one, or finds the end
 pub turnsLeft : (line filled : ℕ) (last : Bool) → ℕ
-turnsLeft line filled true = (65538 - line) * 40 + (34 - filled)
-turnsLeft line filled false = (65538 - line) * 40 + (34 - filled) + 1
+turnsLeft line filled true = (65539 - line) * 40 + (34 - filled)
+turnsLeft line filled false = (65539 - line) * 40 + (34 - filled) + 1
 
 -- a turn that listed lines and used bytes
-pub turn-listed : (line line′ filled filled′ : ℕ) (last : Bool) → line < line′ → line′ ≤ 65537 → turnsLeft line′ filled′ last < turnsLeft line filled last
+pub turn-listed : (line line′ filled filled′ : ℕ) (last : Bool) → line < line′ → line′ ≤ 65538 → turnsLeft line′ filled′ last < turnsLeft line filled last
 unfolding turnsLeft
 turn-listed line line′ filled filled′ true h few = omega arith
 turn-listed line line′ filled filled′ false h few = omega arith

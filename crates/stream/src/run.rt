@@ -51,14 +51,14 @@ fn refuse(to: i32, stop: Stop) -> Run
 }
 
 // Reads a recording to its end or its first bad line, and writes its listing, each breath as soon as
-// its line feed has come. A turn that doesn't end it lists a line, or reads on where no line is whole,
+// its line feed has come. A turn that doesn't end it takes a line, or reads on where no line is whole,
 // so that it ends. (The night is the recording's at each turn, proved, so that it is never none.)
 pub fn list(from: i32, to: i32) -> Run
     ensures { λ r. ⌜ Tells (runOutcome r) ⌝ }
 {
     let mut bytes = input_buffer();
     let mut text = output_buffer();
-    let mut night = Night::begun();
+    let mut night = Night::Begun;
     let mut filled = 0;
     let mut last = false;
     loop {

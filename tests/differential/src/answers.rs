@@ -1,7 +1,7 @@
 //! Answers the request lines of the second program, or with `night` its recipes, from standard input.
 
 use differential::load;
-use differential::night;
+use differential::night::{self, Breath};
 use differential::paper::{self, Answer, Format, Number, Size, Stop};
 use differential::timings;
 use std::cmp::Ordering;
@@ -48,6 +48,10 @@ fn answer(letter: &str, numbers: &[u64]) -> Answer<String> {
             Ok(each(source, |word| {
                 hexadecimal(paper::convert(source, target, word))
             }))
+        }
+        ("h", &[rate, onset, peak, next]) => breath_answer(rate, [onset, peak, next]),
+        ("a", &[rate, in_sum, whole_sum, onset, peak, next]) => {
+            added_answer(rate, (in_sum, whole_sum), [onset, peak, next])
         }
         ("i", &[length, _, ref rest @ ..]) => {
             let (bytes, out) = rest.split_at(length as usize);
@@ -155,6 +159,31 @@ fn format_answer(letter: &str, form: Format, numbers: &[u64]) -> Answer<String> 
         })),
         _ => panic!("unknown request {letter} {numbers:?}"),
     }
+}
+
+/// The durations and the word of the breath between three marks.
+fn breath_answer(rate: u64, marks: [u64; 3]) -> Answer<String> {
+    night::check_rate(rate)?;
+    let breath = breath_between(marks);
+    let Breath { inward, whole } = breath;
+    Ok(match breath.word(rate) {
+        night::VOID => format!("{inward} {whole} void"),
+        word => format!("{inward} {whole} {word:x}"),
+    })
+}
+
+/// Sums of in and whole with the breath between three marks.
+fn added_answer(rate: u64, sums: (u64, u64), marks: [u64; 3]) -> Answer<String> {
+    night::check_rate(rate)?;
+    Ok(match breath_between(marks).added(rate, sums) {
+        Some((in_sum, whole_sum)) => format!("{in_sum} {whole_sum}"),
+        None => "full".to_string(),
+    })
+}
+
+fn breath_between(marks: [u64; 3]) -> Breath {
+    let [onset, peak, next] = marks.map(|mark| u32::try_from(mark).expect("a tick mark"));
+    Breath::between(onset, peak, next)
 }
 
 /// The word that a way gives: 1 twists, 2 untwists.

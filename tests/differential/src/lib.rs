@@ -1,4 +1,4 @@
-//! Slash arithmetic, the listing of a night and its reading back, and imported timings, written from the
+//! Slash arithmetic, breaths, the listing of a night and its reading back, and imported timings, written from the
 //! papers alone.
 
 pub mod load;

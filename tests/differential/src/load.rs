@@ -1,9 +1,7 @@
 //! A printed listing read back, from documents 00 and 01 and CRs 1 to 3 of 02 alone.
 
-use crate::night::{self, shares, stored, VOID};
+use crate::night::{self, shares, stop_at, stored, MOST_BREATHS, VOID};
 use crate::paper::{self, Answer, Number, Pair, Size, Stop};
-
-const MOST_BREATHS: usize = 65536;
 
 /// What a listing says: the breaths' words, the first one first, and the total's.
 #[derive(Debug, PartialEq, Eq)]
@@ -39,10 +37,6 @@ pub fn printed(words: &[u64], total: u64) -> Vec<u8> {
 
 /// What a listing says, or the stop of its first bad line.
 pub fn read(text: &[u8]) -> Answer<Loaded> {
-    let stop_at = |line: usize| {
-        let place = line as u64;
-        move |number| Stop { number, place }
-    };
     let (mut words, mut total, mut line) = (Vec::new(), None, 1);
     for bytes in text.split_inclusive(|&byte| byte == b'\n') {
         let columns = columns(bytes).ok_or(stop_at(line)(13))?;

@@ -2,8 +2,8 @@
 //!
 //! What is good is decided by the numbers' values; ratios are formed of whole numbers of a common unit.
 
-use crate::night::stored;
-use crate::paper::{self, Answer, Number, Pair, Size, Stop};
+use crate::night::ratio_word;
+use crate::paper::{Answer, Pair, Stop};
 
 const RECORD_BYTES: usize = 12;
 
@@ -37,7 +37,7 @@ pub fn timings(records: &[u8], words: &mut [u64]) -> Answer<()> {
     let records = records.chunks(RECORD_BYTES).enumerate().map(read_at);
     let records: Vec<Record> = records.collect::<Answer<_>>()?;
     for (word, record) in words.iter_mut().zip(records) {
-        *word = ratio_word(record);
+        *word = ratio_word(ratio(record));
     }
     Ok(())
 }
@@ -79,16 +79,7 @@ fn is_good(record: Record, second: f32) -> bool {
     }
 }
 
-/// The word of a good record's ratio.
-fn ratio_word(record: Record) -> u64 {
-    let number = Number {
-        negative: false,
-        marked: false,
-        size: Size::Finite(ratio(record)),
-    };
-    paper::write(stored(), number).expect("a word")
-}
-
+/// A good record's ratio.
 fn ratio(record: Record) -> Pair {
     match record {
         Record::Timings { inspiration, whole } => (units(inspiration), units(whole)),

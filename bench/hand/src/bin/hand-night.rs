@@ -15,7 +15,8 @@ fn main() -> io::Result<()> {
         )
     };
     let (mut bytes, mut text) = ([0; 16384], [0; 32768]);
-    let (mut night, mut held, mut last) = (Night::begun(), 0, false);
+    // Without halving, as the archive goes.
+    let (mut night, mut held, mut last) = (Night::<false>::begun(), 0, false);
     loop {
         if !last {
             let count = input.read(&mut bytes[held..])?;

@@ -8,6 +8,7 @@
 #![allow(clippy::missing_safety_doc)]
 
 pub mod by_record;
+pub mod halving;
 pub mod tables;
 
 use std::slice::{from_raw_parts, from_raw_parts_mut};
@@ -208,6 +209,17 @@ pub unsafe extern "C" fn slash_timings(
 }
 
 #[cfg_attr(not(feature = "unnamed"), no_mangle)]
+pub unsafe extern "C" fn slash_breath(
+    rate: u64,
+    onset: u32,
+    peak: u32,
+    next: u32,
+    word: *mut u64,
+) -> u64 {
+    store(hand::breath::breath::<false>(rate, onset, peak, next), word)
+}
+
+#[cfg_attr(not(feature = "unnamed"), no_mangle)]
 pub unsafe extern "C" fn slash_night(
     recording: *const u8,
     recording_length: usize,
@@ -216,7 +228,7 @@ pub unsafe extern "C" fn slash_night(
 ) -> u64 {
     let recording = from_raw_parts(recording, recording_length);
     let listing = from_raw_parts_mut(listing, hand::night::LISTING_BYTES);
-    store(hand::night::night(recording, listing), length)
+    store(hand::night::night::<false>(recording, listing), length)
 }
 
 #[cfg_attr(not(feature = "unnamed"), no_mangle)]

@@ -351,7 +351,14 @@ impl Harness {
         );
     }
 
-    // Calls on recordings.
+    // Calls on breaths and recordings.
+
+    pub fn breath(&mut self, rate: u64, marks: [u32; 3]) {
+        let [onset, peak, next] = marks;
+        let archive = stored(|word| unsafe { raw::slash_breath(rate, onset, peak, next, word) });
+        let papers = night::breath(rate, onset, peak, next);
+        self.hold("slash_breath", (rate, marks), archive, told(papers));
+    }
 
     /// Holds the listing and what lies around it, the whole rest of what is lent if asked. All that
     /// a refused recording's call is lent is rest.

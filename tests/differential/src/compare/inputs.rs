@@ -1,4 +1,4 @@
-//! Random formats, codes, words, vectors and recordings, the same for the same seed.
+//! Random formats, codes, words and vectors, the same for the same seed.
 
 use differential::paper::{self, all_formats, Format, Kind};
 
@@ -26,40 +26,6 @@ const STRANGE: [u64; 14] = [
     (1 << 63) + 2,
     u64::MAX,
 ];
-
-/// Fields of a recording that are no tick marks or the last ones.
-const STRANGE_FIELDS: [&str; 16] = [
-    "",
-    "0",
-    "00",
-    "01",
-    "+1",
-    "-1",
-    "1 ",
-    "4294967294",
-    "4294967295",
-    "4294967296",
-    "4294967297",
-    "4294967300",
-    "5000000000",
-    "10000000000",
-    "18446744073709551617",
-    "0\t0",
-];
-
-/// Puts another text in the place of the field that is there.
-fn replace_field(recording: &mut Vec<u8>, place: usize, text: &[u8]) {
-    let parts = |&byte: &u8| byte == b'\t' || byte == b'\n';
-    let start = recording[..place]
-        .iter()
-        .rposition(parts)
-        .map_or(0, |at| at + 1);
-    let end = recording[place..]
-        .iter()
-        .position(parts)
-        .map_or(recording.len(), |at| place + at);
-    recording.splice(start..end, text.iter().copied());
-}
 
 impl Source {
     pub fn new(seed: u64) -> Source {
@@ -254,80 +220,6 @@ impl Source {
             if paper::read(form, word).is_ok() {
                 return word;
             }
-        }
-    }
-
-    // Recordings.
-
-    /// A good recording of so many lines.
-    pub fn recording(&mut self, lines: usize) -> Vec<u8> {
-        let mut onset = self.bits() as u32;
-        let mut recording = Vec::new();
-        for _ in 0..lines {
-            let (inward, whole) = self.breath();
-            let (peak, next) = (onset.wrapping_add(inward), onset.wrapping_add(whole));
-            recording.extend_from_slice(format!("{onset}\t{peak}\t{next}\n").as_bytes());
-            onset = if self.below(8) == 0 {
-                self.part() as u32
-            } else {
-                next
-            };
-        }
-        recording
-    }
-
-    /// The ticks of breathing in and of the whole breath: like a sleeper's, or any.
-    fn breath(&mut self) -> (u32, u32) {
-        let (inward, whole) = match self.below(4) {
-            0 => (self.part(), self.part()),
-            1 => {
-                let whole = self.part();
-                (self.below(whole | 1), whole)
-            }
-            2 => self.about_halfway(),
-            _ => {
-                let whole = 200 + self.below(600);
-                (whole * (30 + self.below(20)) / 100, whole)
-            }
-        };
-        (inward as u32, whole as u32)
-    }
-
-    /// Ticks whose percentage is halfway between two tenths; or one tick off, so that the ratio is held as it
-    /// is or rounds to one halfway; or, of a whole breath of at most 15 bits, the ticks next to halfway.
-    fn about_halfway(&mut self) -> (u64, u64) {
-        let denominator = self.one_of(&[16, 80, 400, 2000]);
-        let numerator = 1 + 2 * self.below(denominator / 2);
-        let any = self.below(22);
-        let count = self.one_of(&[any, 21]);
-        let times = self.of_bits(count).max(1);
-        let (inward, whole) = (times * numerator, times * denominator);
-        match self.below(4) {
-            0 => (inward, whole),
-            1 | 2 => (inward - 1 + 2 * self.below(2), whole),
-            _ => {
-                let held = 1 + self.below(32767);
-                (held * numerator / denominator + self.below(2), held)
-            }
-        }
-    }
-
-    /// Changes, takes out or puts in a byte, cuts the recording off, or puts a strange field in.
-    pub fn damage(&mut self, recording: &mut Vec<u8>) {
-        let place = self.below(recording.len() as u64 + 1) as usize;
-        if self.below(3) == 0 {
-            let strange = self.one_of(&STRANGE_FIELDS);
-            return replace_field(recording, place, strange.as_bytes());
-        }
-        let any = self.bits() as u8;
-        let byte = self.one_of(&[b'\t', b'\n', b'0', b'1', b'4', b'9', b' ', b'-', b'\r', any]);
-        match self.below(8) {
-            0..=2 if place < recording.len() => recording[place] = byte,
-            3 | 4 if place < recording.len() => {
-                recording.remove(place);
-            }
-            5 => recording.truncate(place),
-            _ => recording.insert(place, byte),
         }
     }
 }

@@ -2,6 +2,7 @@
 
 use crate::calls::Harness;
 use crate::inputs::Source;
+use crate::texts;
 use differential::load;
 use differential::night::{self, shares, stored, VOID};
 use differential::paper;
@@ -68,7 +69,9 @@ const ROOM: usize = 6;
 
 pub fn every_listing(harness: &mut Harness, source: &mut Source) {
     for listing in [PAPERS, MARKED, NOTHING] {
-        every_changed_byte(harness, listing.as_bytes());
+        for text in texts::changed(listing.as_bytes()) {
+            harness.load(&text, ROOM, ROOM);
+        }
     }
     every_small_word(harness);
     every_tie(harness);
@@ -76,20 +79,6 @@ pub fn every_listing(harness: &mut Harness, source: &mut Source) {
     every_list_length(harness);
     endless_columns(harness);
     long_listings(harness, source);
-}
-
-/// Each byte changed to each other one or taken out; each put in before it; the text cut at each place.
-fn every_changed_byte(harness: &mut Harness, listing: &[u8]) {
-    for place in 0..listing.len() {
-        let (before, from) = listing.split_at(place);
-        for byte in 0..=255 {
-            harness.load(&[before, &[byte], &from[1..]].concat(), ROOM, ROOM);
-            harness.load(&[before, &[byte], from].concat(), ROOM, ROOM);
-        }
-        harness.load(&[before, &from[1..]].concat(), ROOM, ROOM);
-        harness.load(before, ROOM, ROOM);
-    }
-    harness.load(listing, ROOM, ROOM);
 }
 
 /// All words with small parts, of either sign and mark, in a breath's line, in that of the total and in a

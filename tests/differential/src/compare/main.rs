@@ -10,7 +10,9 @@ mod calls;
 mod counts;
 mod inputs;
 mod listings;
+mod nights;
 mod records;
+mod texts;
 
 use calls::Harness;
 use counts::Part;
@@ -49,8 +51,8 @@ fn exhaustive_part(harness: &mut Harness, source: &mut Source) {
     every_twisted_word(harness);
     every_slash_position(harness);
     whole_vectors_twisted(harness);
-    every_short_recording(harness);
-    long_recordings(harness, source);
+    nights::every_breath(harness);
+    nights::every_recording(harness, source);
     listings::every_listing(harness, source);
     records::every_record(harness);
 }
@@ -196,45 +198,12 @@ fn whole_vectors_twisted(harness: &mut Harness) {
     }
 }
 
-/// Every recording of at most seven bytes that are digits 0 and 1, tabs and line feeds.
-fn every_short_recording(harness: &mut Harness) {
-    let bytes = *b"01\t\n";
-    for length in 0..=7 {
-        for number in 0..bytes.len().pow(length) {
-            let digit = |at| number / bytes.len().pow(at) % bytes.len();
-            let recording: Vec<u8> = (0..length).map(|at| bytes[digit(at)]).collect();
-            harness.night(&recording, false);
-        }
-    }
-}
-
-/// Recordings of about as many lines as are allowed, good and damaged.
-fn long_recordings(harness: &mut Harness, source: &mut Source) {
-    for lines in 65533..=65539 {
-        for damages in 0..2 {
-            let mut recording = source.recording(lines);
-            (0..damages).for_each(|_| source.damage(&mut recording));
-            harness.night(&recording, true);
-        }
-    }
-    for line in [
-        "4294967295\t4294967294\t4294967294\n",
-        "0\t1\t2\n",
-        "1\t0\t0\n",
-        "0\t0\t0\n",
-    ] {
-        for lines in [65535, 65536, 65537] {
-            harness.night(line.repeat(lines).as_bytes(), true);
-        }
-    }
-}
-
 // The random part.
 
 /// One call, of any function, of a good or a strange format.
 fn random_call(harness: &mut Harness, source: &mut Source) {
     let form = source.format();
-    match source.below(25) {
+    match source.below(26) {
         0..=5 => {
             let (left, right) = source.operands(form);
             harness.binary(form, source.code(4), left, right);
@@ -260,13 +229,8 @@ fn random_call(harness: &mut Harness, source: &mut Source) {
         20 => listings::random_listing(harness, source),
         21 | 22 => random_twists(harness, source),
         23 => records::random_records(harness, source),
-        _ => {
-            let lines = source.below(9) as usize;
-            let mut recording = source.recording(lines);
-            (0..source.below(3)).for_each(|_| source.damage(&mut recording));
-            let whole_rest = source.below(1024) == 0;
-            harness.night(&recording, whole_rest);
-        }
+        24 => nights::random_breath(harness, source),
+        _ => nights::random_recording(harness, source),
     }
 }
 

@@ -34,17 +34,17 @@ sub-is-sure-2 c = omega (arith, piecing-long (c .before .loop .inv), c .before .
 is-sure-requires : tie.Need-is-sure-requires Inv-loop μ-loop
 is-sure-requires c κs = search needs
 
-sub-next-line : tie.Need-sub-next-line Inv-loop μ-loop
-sub-next-line c = omega (arith, c .before .before .before .loop .inv .within)
+sub-next-breath : tie.Need-sub-next-breath Inv-loop μ-loop
+sub-next-breath c = omega (arith, c .before .before .before .loop .inv .within)
 
-part-next-line-start : tie.Need-part-next-line-start Inv-loop μ-loop
-part-next-line-start c = omega (arith, c .before .before .before .loop .inv .within)
+part-next-breath-start : tie.Need-part-next-breath-start Inv-loop μ-loop
+part-next-breath-start c = omega (arith, c .before .before .before .loop .inv .within)
 
-part-next-line-end : tie.Need-part-next-line-end Inv-loop μ-loop
-part-next-line-end c = search needs
+part-next-breath-end : tie.Need-part-next-breath-end Inv-loop μ-loop
+part-next-breath-end c = search needs
 
-next-line-requires : tie.Need-next-line-requires Inv-loop μ-loop
-next-line-requires c κs = search needs
+next-breath-requires : tie.Need-next-breath-requires Inv-loop μ-loop
+next-breath-requires c κs = search needs
 
 enum-known-entry : tie.Need-enum-known-entry Inv-loop μ-loop
 enum-known-entry c = search needs
@@ -56,16 +56,16 @@ put-line-requires : tie.Need-put-line-requires Inv-loop μ-loop
 put-line-requires c κs = search needs
 
 with-line-requires : tie.Need-with-line-requires Inv-loop μ-loop
-with-line-requires c κs = real-night _ (c .before .before .before .before .before .before .before .before .before .before .before .before .before .before .loop .inv .real)
+with-line-requires c κs = real-night _ (c .before .before .before .before .before .before .before .before .before .before .before .before .before .before .before .loop .inv .real)
 
 add-from : tie.Need-add-from Inv-loop μ-loop
-add-from c = omega (arith, c .before .before .before .before .before .before .before .before .before .before .before .before .before .before .before .before .before .before .before .good .1 .0, piecing-used (c .before .before .before .before .before .before .before .before .before .before .before .before .before .before .before .before .loop .inv) (sym (c .before .before .before .before .before .before .before .before .before .before .before .before .before .before .is-sure .ensures) ∙ c .before .before .before .before .before .before .before .before .before .before .before .before .before .if1 .taken) _ (c .before .before .before .before .before .before .before .before .before .before .before .next-line .ensures) _ (c .before .before .before .before .before .before .before .before .before .entry .given .1) .1)
+add-from c = omega (arith, c .before .before .before .before .before .before .before .before .before .before .before .before .before .before .before .before .before .before .before .before .good .1 .0, piecing-used (c .before .before .before .before .before .before .before .before .before .before .before .before .before .before .before .before .before .loop .inv) (sym (c .before .before .before .before .before .before .before .before .before .before .before .before .before .before .before .is-sure .ensures) ∙ c .before .before .before .before .before .before .before .before .before .before .before .before .before .before .if1 .taken) _ (c .before .before .before .before .before .before .before .before .before .before .before .before .next-breath .ensures) _ (c .before .before .before .before .before .before .before .before .before .before .entry .given .1) .1)
 
 loop-less : tie.Need-loop-less Inv-loop μ-loop
-loop-less c = omega (arith, piecing-used (c .before .before .before .before .before .before .before .before .before .before .before .before .before .before .before .before .loop .inv) (sym (c .before .before .before .before .before .before .before .before .before .before .before .before .before .before .is-sure .ensures) ∙ c .before .before .before .before .before .before .before .before .before .before .before .before .before .if1 .taken) _ (c .before .before .before .before .before .before .before .before .before .before .before .next-line .ensures) _ (c .before .before .before .before .before .before .before .before .before .entry .given .1))
+loop-less c = omega (arith, piecing-used (c .before .before .before .before .before .before .before .before .before .before .before .before .before .before .before .before .before .loop .inv) (sym (c .before .before .before .before .before .before .before .before .before .before .before .before .before .before .before .is-sure .ensures) ∙ c .before .before .before .before .before .before .before .before .before .before .before .before .before .before .if1 .taken) _ (c .before .before .before .before .before .before .before .before .before .before .before .before .next-breath .ensures) _ (c .before .before .before .before .before .before .before .before .before .before .entry .given .1))
 
 loop-again : tie.Need-loop-again Inv-loop μ-loop
-loop-again c = piecing-again (c .before .before .before .before .before .before .before .before .before .before .before .before .before .before .before .before .loop .inv) (sym (c .before .before .before .before .before .before .before .before .before .before .before .before .before .before .is-sure .ensures) ∙ c .before .before .before .before .before .before .before .before .before .before .before .before .before .if1 .taken) _ (c .before .before .before .before .before .before .before .before .before .before .before .next-line .ensures) _ (c .before .before .before .before .before .before .before .before .before .entry .given .1) _ (c .before .before .before .before .before .ratio .ensures .0) _ (c .before .with-line .ensures) (c .before .before .before .before .put-line .ensures)
+loop-again c = piecing-again (c .before .before .before .before .before .before .before .before .before .before .before .before .before .before .before .before .before .loop .inv) (sym (c .before .before .before .before .before .before .before .before .before .before .before .before .before .before .before .is-sure .ensures) ∙ c .before .before .before .before .before .before .before .before .before .before .before .before .before .before .if1 .taken) _ (c .before .before .before .before .before .before .before .before .before .before .before .before .next-breath .ensures) _ (c .before .before .before .before .before .before .before .before .before .before .entry .given .1) _ (c .before .before .before .before .before .ratio .ensures .0) _ (c .before .with-line .ensures) (c .before .before .before .before .put-line .ensures)
 
 enum-told : tie.Need-enum-told Inv-loop μ-loop
 enum-told c = search needs
@@ -80,19 +80,19 @@ same-length : tie.Need-same-length Inv-loop μ-loop
 same-length c = stored-length (c .before .before .put-line2 .ensures) ∙ piecing-long (c .before .before .before .before .before .before .before .before .before .before .before .before .before .loop .inv)
 
 returns : tie.Need-returns Inv-loop μ-loop
-returns c = piecing-closed (c .before .before .before .before .before .before .before .before .before .before .before .before .before .loop .inv) (sym (c .before .before .before .before .before .before .before .before .before .before .before .is-sure .ensures) ∙ c .before .before .before .before .before .before .before .before .before .before .if1 .taken) _ (c .before .before .before .before .before .before .before .before .next-line .ensures) (c .before .before .before .before .before .before .enum-told .given .1) _ (c .before .before .before .ratio2 .ensures .0) (c .before .before .put-line2 .ensures)
+returns c = piecing-closed (c .before .before .before .before .before .before .before .before .before .before .before .before .before .loop .inv) (sym (c .before .before .before .before .before .before .before .before .before .before .before .is-sure .ensures) ∙ c .before .before .before .before .before .before .before .before .before .before .if1 .taken) _ (c .before .before .before .before .before .before .before .before .next-breath .ensures) (c .before .before .before .before .before .before .enum-told .given .1) _ (c .before .before .before .ratio2 .ensures .0) (c .before .before .put-line2 .ensures)
 
 enum-known-stop : tie.Need-enum-known-stop Inv-loop μ-loop
 enum-known-stop c = search needs
 
-refused-requires : tie.Need-refused-requires Inv-loop μ-loop
-refused-requires c κs = search needs
+left-to-next-requires : tie.Need-left-to-next-requires Inv-loop μ-loop
+left-to-next-requires c κs = search needs
 
 same-length-2 : tie.Need-same-length-2 Inv-loop μ-loop
 same-length-2 c = piecing-long (c .before .before .before .before .before .before .before .before .before .loop .inv)
 
 returns-2 : tie.Need-returns-2 Inv-loop μ-loop
-returns-2 c = piecing-stopped (c .before .before .before .before .before .before .before .before .before .loop .inv) (sym (c .before .before .before .before .before .before .before .is-sure .ensures) ∙ c .before .before .before .before .before .before .if1 .taken) _ (c .before .before .before .before .next-line .ensures) _ (c .before .before .stop .given .1) _ (c .refused .ensures)
+returns-2 c = piecing-stopped (c .before .before .before .before .before .before .before .before .before .loop .inv) (sym (c .before .before .before .before .before .before .before .is-sure .ensures) ∙ c .before .before .before .before .before .before .if1 .taken) _ (c .before .before .before .before .next-breath .ensures) _ (c .before .before .stop .given .1) _ (c .left-to-next .ensures)
 
 same-length-3 : tie.Need-same-length-3 Inv-loop μ-loop
 same-length-3 c = piecing-long (c .before .before .before .loop .inv)
@@ -112,10 +112,10 @@ put-lines-spec =
     part-is-sure-end
     sub-is-sure-2
     is-sure-requires
-    sub-next-line
-    part-next-line-start
-    part-next-line-end
-    next-line-requires
+    sub-next-breath
+    part-next-breath-start
+    part-next-breath-end
+    next-breath-requires
     enum-known-entry
     ratio-requires
     put-line-requires
@@ -129,7 +129,7 @@ put-lines-spec =
     same-length
     returns
     enum-known-stop
-    refused-requires
+    left-to-next-requires
     same-length-2
     returns-2
     same-length-3

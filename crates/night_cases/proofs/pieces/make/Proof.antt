@@ -1,11 +1,11 @@
 -- `night_cases::pieces::make` meets its contract. Assumes nothing.
-use Rattle.listing.proofs.NightLaws.{begun-real, real-night}
+use Rattle.listing.proofs.NightLaws.{begun-night}
 use Rattle.listing.proofs.StepLaws.{piece-answer}
 use Rattle.listing.specs.Nights.{isNight}
 use Prim.Native.Nat.{ℕ, _+_, _-_, _≤_}
 use mathlib.Core.Bool.{true}
 use mathlib.Core.List.{List}
-use mathlib.Core.Path.{_≡_, sym, ap, _∙_}
+use mathlib.Core.Path.{_≡_, sym}
 use native.Mathlib.Omega.{arith}
 use lib.ListN.{length, take, drop, length-take}
 use lib.Seq.{length-take-le}
@@ -29,11 +29,8 @@ Inv-loop bytes listing out₀ night₀ from₀ end₀ at₀ left₀ out night fr
 abbrev μ-loop : tie.MeasureT-loop
 μ-loop bytes listing out₀ night₀ from₀ end₀ at₀ left₀ out night from end at left = left
 
-begun-requires : tie.Need-begun-requires Inv-loop μ-loop
-begun-requires c κs = search needs
-
 loop-holds : tie.Need-loop-holds Inv-loop μ-loop
-loop-holds c = (search needs, omega arith, omega arith, omega arith, ap isNight (c .begun .ensures) ∙ real-night _ begun-real)
+loop-holds c = (search needs, omega arith, omega arith, omega arith, begun-night)
 
 next-end-requires : tie.Need-next-end-requires Inv-loop μ-loop
 next-end-requires c κs = c .before .loop .inv .2
@@ -66,7 +63,7 @@ returns : tie.Need-returns Inv-loop μ-loop
 returns c = search needs
 
 add-at : tie.Need-add-at Inv-loop μ-loop
-add-at c = omega (arith, printed _ _ _ (c .before .before .before .before .before .before .before .before .before .before .before .before .before .args .listing .now) (piece-answer _ _ _ (c .before .before .before .before .before .before .before .before .before .loop .out) _ _ (c .before .before .before .before .before .before .before .before .before .loop .inv .4) (c .before .before .before .before .list-piece .ensures .0, c .before .before .before .before .list-piece .ensures .1 .0) .1) (c .before .stands .ensures (not-false _ (c .if1 .left))))
+add-at c = omega (arith, printed _ _ _ (c .before .before .before .before .before .before .before .before .before .before .before .before .args .listing .now) (piece-answer _ _ _ (c .before .before .before .before .before .before .before .before .before .loop .out) _ _ (c .before .before .before .before .before .before .before .before .before .loop .inv .4) (c .before .before .before .before .list-piece .ensures .0, c .before .before .before .before .list-piece .ensures .1 .0) .1) (c .before .stands .ensures (not-false _ (c .if1 .left))))
 
 enum-told : tie.Need-enum-told Inv-loop μ-loop
 enum-told c = search needs
@@ -85,7 +82,7 @@ loop-less c = search needs
 
 loop-again : tie.Need-loop-again Inv-loop μ-loop
 loop-again c =
-    (search needs, used _ _ _ _ _ (c .before .before .before .before .before .before .before .before .before .before .before .next-end .ensures .0) (c .before .before .before .before .before .before .before .before .before .before .before .before .before .loop .inv .1) (piece-answer _ _ _ (c .before .before .before .before .before .before .before .before .before .before .before .before .before .loop .out) _ _ (c .before .before .before .before .before .before .before .before .before .before .before .before .before .loop .inv .4) (c .before .before .before .before .before .before .before .before .list-piece .ensures .0, c .before .before .before .before .before .before .before .before .list-piece .ensures .1 .0) .0), c .before .before .before .before .before .before .before .before .before .before .before .next-end .ensures .1, printed _ _ _ (c .before .before .before .before .before .before .before .before .before .before .before .before .before .before .before .before .before .args .listing .now) (piece-answer _ _ _ (c .before .before .before .before .before .before .before .before .before .before .before .before .before .loop .out) _ _ (c .before .before .before .before .before .before .before .before .before .before .before .before .before .loop .inv .4) (c .before .before .before .before .before .before .before .before .list-piece .ensures .0, c .before .before .before .before .before .before .before .before .list-piece .ensures .1 .0) .1) (c .before .before .before .before .before .stands .ensures (not-false _ (c .before .before .before .before .if1 .left))), piece-answer _ _ _ (c .before .before .before .before .before .before .before .before .before .before .before .before .before .loop .out) _ _ (c .before .before .before .before .before .before .before .before .before .before .before .before .before .loop .inv .4) (c .before .before .before .before .before .before .before .before .list-piece .ensures .0, c .before .before .before .before .before .before .before .before .list-piece .ensures .1 .0) .2)
+    (search needs, used _ _ _ _ _ (c .before .before .before .before .before .before .before .before .before .before .next-end .ensures .0) (c .before .before .before .before .before .before .before .before .before .before .before .before .loop .inv .1) (piece-answer _ _ _ (c .before .before .before .before .before .before .before .before .before .before .before .before .loop .out) _ _ (c .before .before .before .before .before .before .before .before .before .before .before .before .loop .inv .4) (c .before .before .before .before .before .before .before .list-piece .ensures .0, c .before .before .before .before .before .before .before .list-piece .ensures .1 .0) .0), c .before .before .before .before .before .before .before .before .before .before .next-end .ensures .1, printed _ _ _ (c .before .before .before .before .before .before .before .before .before .before .before .before .before .before .before .args .listing .now) (piece-answer _ _ _ (c .before .before .before .before .before .before .before .before .before .before .before .before .loop .out) _ _ (c .before .before .before .before .before .before .before .before .before .before .before .before .loop .inv .4) (c .before .before .before .before .before .before .before .list-piece .ensures .0, c .before .before .before .before .before .before .before .list-piece .ensures .1 .0) .1) (c .before .before .before .before .stands .ensures (not-false _ (c .before .before .before .if1 .left))), piece-answer _ _ _ (c .before .before .before .before .before .before .before .before .before .before .before .before .loop .out) _ _ (c .before .before .before .before .before .before .before .before .before .before .before .before .loop .inv .4) (c .before .before .before .before .before .before .before .list-piece .ensures .0, c .before .before .before .before .before .before .before .list-piece .ensures .1 .0) .2)
 
 returns-3 : tie.Need-returns-3 Inv-loop μ-loop
 returns-3 c = search needs
@@ -96,7 +93,6 @@ make-spec =
     (tie.spec
     Inv-loop
     μ-loop
-    begun-requires
     loop-holds
     next-end-requires
     sub-list-piece

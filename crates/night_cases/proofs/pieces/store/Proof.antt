@@ -1,5 +1,5 @@
 -- `night_cases::pieces::store` meets its contract. Assumes nothing.
-use Rattle.listing.proofs.NightLaws.{begun-real, real-night}
+use Rattle.listing.proofs.NightLaws.{begun-night, real-is}
 use Rattle.listing.proofs.PieceLaws.{piece-sound}
 use Rattle.listing.specs.Nights.{isNight}
 use Rattle.listing.specs.Pieces.{pieceOf, answerOf}
@@ -23,7 +23,7 @@ fits night bs last room p e a =
     let s = piece-sound night bs last room e in (
       omega (arith, s .used, ap (λ (q : Piece). q .used) a),
       omega (arith, s .fits, ap (λ (q : Piece). q .length) a),
-      ap (λ (q : Piece). isNight (q .night)) a ∙ real-night _ (s .real),
+      ap (λ (q : Piece). isNight (q .night)) a ∙ real-is _ (s .real),
     )
 
 -- what is used of the bytes from a place up to an end stands before that end
@@ -41,11 +41,8 @@ Inv-loop bytes out₀ night₀ from₀ end₀ at₀ left₀ out night from end a
 abbrev μ-loop : tie.MeasureT-loop
 μ-loop bytes out₀ night₀ from₀ end₀ at₀ left₀ out night from end at left = left
 
-begun-requires : tie.Need-begun-requires Inv-loop μ-loop
-begun-requires c κs = search needs
-
 loop-holds : tie.Need-loop-holds Inv-loop μ-loop
-loop-holds c = (omega arith, omega arith, omega arith, ap isNight (c .begun .ensures) ∙ real-night _ begun-real, refl)
+loop-holds c = (omega arith, omega arith, omega arith, begun-night, refl)
 
 next-end-requires : tie.Need-next-end-requires Inv-loop μ-loop
 next-end-requires c κs = c .before .loop .inv .1
@@ -72,7 +69,7 @@ list-piece-requires : tie.Need-list-piece-requires Inv-loop μ-loop
 list-piece-requires c κs = search needs
 
 add-at : tie.Need-add-at Inv-loop μ-loop
-add-at c = omega (arith, c .before .before .before .before .before .before .before .before .loop .inv, room (c .before .before .before .before .before .before .before .before .loop .out) (c .before .before .before .before .before .before .before .before .loop .at) (c .before .before .before .list-piece .result .length) (fits _ _ _ _ _ (c .before .before .before .before .before .before .before .before .loop .inv .3) (c .before .before .before .list-piece .ensures .0) .1), c .before .before .before .before .before .before .before .before .before .before .before .before .good)
+add-at c = omega (arith, c .before .before .before .before .before .before .before .before .loop .inv, room (c .before .before .before .before .before .before .before .before .loop .out) (c .before .before .before .before .before .before .before .before .loop .at) (c .before .before .before .list-piece .result .length) (fits _ _ _ _ _ (c .before .before .before .before .before .before .before .before .loop .inv .3) (c .before .before .before .list-piece .ensures .0) .1), c .before .before .before .before .before .before .before .before .before .before .before .good)
 
 enum-told : tie.Need-enum-told Inv-loop μ-loop
 enum-told c = search needs
@@ -87,7 +84,7 @@ returns : tie.Need-returns Inv-loop μ-loop
 returns c = search needs
 
 add-from : tie.Need-add-from Inv-loop μ-loop
-add-from c = omega (arith, c .before .before .before .before .before .before .before .before .before .before .before .loop .inv, c .before .before .before .before .before .before .before .before .before .next-end .ensures, used (c .before .before .before .before .before .before .before .before .before .before .before .before .before .before .before .args .bytes .now) (c .before .before .before .before .before .before .before .before .before .before .before .loop .from) (c .before .before .before .before .before .before .before .before .before .next-end .result) (c .before .before .before .before .before .before .list-piece .result .used) (fits _ _ _ _ _ (c .before .before .before .before .before .before .before .before .before .before .before .loop .inv .3) (c .before .before .before .before .before .before .list-piece .ensures .0) .0), c .before .before .before .before .before .before .before .before .before .before .before .before .before .before .before .good)
+add-from c = omega (arith, c .before .before .before .before .before .before .before .before .before .before .before .loop .inv, c .before .before .before .before .before .before .before .before .before .next-end .ensures, used (c .before .before .before .before .before .before .before .before .before .before .before .before .before .before .args .bytes .now) (c .before .before .before .before .before .before .before .before .before .before .before .loop .from) (c .before .before .before .before .before .before .before .before .before .next-end .result) (c .before .before .before .before .before .before .list-piece .result .used) (fits _ _ _ _ _ (c .before .before .before .before .before .before .before .before .before .before .before .loop .inv .3) (c .before .before .before .before .before .before .list-piece .ensures .0) .0), c .before .before .before .before .before .before .before .before .before .before .before .before .before .before .good)
 
 sub-left : tie.Need-sub-left Inv-loop μ-loop
 sub-left c = search needs
@@ -96,7 +93,7 @@ loop-less : tie.Need-loop-less Inv-loop μ-loop
 loop-less c = search needs
 
 loop-again : tie.Need-loop-again Inv-loop μ-loop
-loop-again c = (omega (arith, c .before .before .before .before .before .before .before .before .before .before .before .before .loop .inv, c .before .before .before .before .before .before .before .before .before .before .next-end .ensures, used (c .before .before .before .before .before .before .before .before .before .before .before .before .before .before .before .before .args .bytes .now) (c .before .before .before .before .before .before .before .before .before .before .before .before .loop .from) (c .before .before .before .before .before .before .before .before .before .before .next-end .result) (c .before .before .before .before .before .before .before .list-piece .result .used) (fits _ _ _ _ _ (c .before .before .before .before .before .before .before .before .before .before .before .before .loop .inv .3) (c .before .before .before .before .before .before .before .list-piece .ensures .0) .0)), search needs, omega (arith, c .before .before .before .before .before .before .before .before .before .before .before .before .loop .inv, room (c .before .before .before .before .before .before .before .before .before .before .before .before .loop .out) (c .before .before .before .before .before .before .before .before .before .before .before .before .loop .at) (c .before .before .before .before .before .before .before .list-piece .result .length) (fits _ _ _ _ _ (c .before .before .before .before .before .before .before .before .before .before .before .before .loop .inv .3) (c .before .before .before .before .before .before .before .list-piece .ensures .0) .1)), fits _ _ _ _ _ (c .before .before .before .before .before .before .before .before .before .before .before .before .loop .inv .3) (c .before .before .before .before .before .before .before .list-piece .ensures .0) .2, search needs)
+loop-again c = (omega (arith, c .before .before .before .before .before .before .before .before .before .before .before .loop .inv, c .before .before .before .before .before .before .before .before .before .next-end .ensures, used (c .before .before .before .before .before .before .before .before .before .before .before .before .before .before .args .bytes .now) (c .before .before .before .before .before .before .before .before .before .before .before .loop .from) (c .before .before .before .before .before .before .before .before .before .next-end .result) (c .before .before .before .before .before .before .list-piece .result .used) (fits _ _ _ _ _ (c .before .before .before .before .before .before .before .before .before .before .before .loop .inv .3) (c .before .before .before .before .before .before .list-piece .ensures .0) .0)), search needs, omega (arith, c .before .before .before .before .before .before .before .before .before .before .before .loop .inv, room (c .before .before .before .before .before .before .before .before .before .before .before .loop .out) (c .before .before .before .before .before .before .before .before .before .before .before .loop .at) (c .before .before .before .before .before .before .list-piece .result .length) (fits _ _ _ _ _ (c .before .before .before .before .before .before .before .before .before .before .before .loop .inv .3) (c .before .before .before .before .before .before .list-piece .ensures .0) .1)), fits _ _ _ _ _ (c .before .before .before .before .before .before .before .before .before .before .before .loop .inv .3) (c .before .before .before .before .before .before .list-piece .ensures .0) .2, search needs)
 
 same-length-2 : tie.Need-same-length-2 Inv-loop μ-loop
 same-length-2 c = search needs
@@ -110,7 +107,6 @@ store-spec =
     (tie.spec
     Inv-loop
     μ-loop
-    begun-requires
     loop-holds
     next-end-requires
     sub-list-piece

@@ -1,77 +1,55 @@
 -- `recording::reading::check` meets its contract. Assumes nothing.
-use Rattle.recording.proofs.ReadingLaws.{Reading, reading-start, reading-end, reading-stopped, reading-used, reading-again}
+use Rattle.recording.proofs.ReadingLaws.{opening-within, checked-rated, checked-end, checked-stopped}
 use native.Mathlib.Omega.{arith}
-use Prim.Native.Nat.{_-_}
-use lib.ListN.{length}
 use borrow.Author.Needs.{needs}
 use Rattle.recording.proofs.reading.check.Statement.{statement}
 use Rattle.recording.proofs.reading.check.Tie as tie
 
-abbrev Inv-loop : tie.InvT-loop
-Inv-loop recording line₀ from₀ line from = Reading recording line from
+first-line-requires : tie.Need-first-line-requires
+first-line-requires c κs = search needs
 
-abbrev μ-loop : tie.MeasureT-loop
-μ-loop recording line₀ from₀ line from = length recording - from
+enum-known-opening : tie.Need-enum-known-opening
+enum-known-opening c = search needs
 
-loop-holds : tie.Need-loop-holds Inv-loop μ-loop
-loop-holds c = reading-start _
+sub-check-breaths : tie.Need-sub-check-breaths
+sub-check-breaths c = omega (arith, opening-within _ _ (c .before .before .before .first-line .ensures) _ (c .before .opening .given .1))
 
-sub-next-length : tie.Need-sub-next-length Inv-loop μ-loop
-sub-next-length c = omega (arith, c .loop .inv .within)
+part-check-breaths-start : tie.Need-part-check-breaths-start
+part-check-breaths-start c = omega (arith, opening-within _ _ (c .before .before .before .first-line .ensures) _ (c .before .opening .given .1))
 
-part-next-length-start : tie.Need-part-next-length-start Inv-loop μ-loop
-part-next-length-start c = omega (arith, c .loop .inv .within)
+part-check-breaths-end : tie.Need-part-check-breaths-end
+part-check-breaths-end c = search needs
 
-part-next-length-end : tie.Need-part-next-length-end Inv-loop μ-loop
-part-next-length-end c = search needs
+check-breaths-requires : tie.Need-check-breaths-requires
+check-breaths-requires c κs = search needs
 
-next-length-requires : tie.Need-next-length-requires Inv-loop μ-loop
-next-length-requires c κs = search needs
-
-enum-known-used : tie.Need-enum-known-used Inv-loop μ-loop
-enum-known-used c = search needs
-
-add-line : tie.Need-add-line Inv-loop μ-loop
-add-line c = record { fits = omega (arith, reading-used (c .before .before .before .before .before .loop .inv) _ (c .before .before .before .next-length .ensures) _ (c .before .used .given .1) .0) }
-
-add-from : tie.Need-add-from Inv-loop μ-loop
-add-from c = omega (arith, c .before .before .before .before .before .before .before .good .0 .0, reading-used (c .before .before .before .before .before .loop .inv) _ (c .before .before .before .next-length .ensures) _ (c .before .used .given .1) .2)
-
-loop-less : tie.Need-loop-less Inv-loop μ-loop
-loop-less c = let used = reading-used (c .before .before .before .before .before .loop .inv) _ (c .before .before .before .next-length .ensures) _ (c .before .used .given .1) in omega (arith, used .1, used .2)
-
-loop-again : tie.Need-loop-again Inv-loop μ-loop
-loop-again c = reading-again (c .before .before .before .before .before .loop .inv) _ (c .before .before .before .next-length .ensures) _ (c .before .used .given .1)
-
-enum-told : tie.Need-enum-told Inv-loop μ-loop
+enum-told : tie.Need-enum-told
 enum-told c = search needs
 
-returns : tie.Need-returns Inv-loop μ-loop
-returns c = reading-end (c .before .before .before .before .loop .inv) _ (c .before .before .next-length .ensures) (c .enum-told .given .1)
-
-enum-known-stop : tie.Need-enum-known-stop Inv-loop μ-loop
+enum-known-stop : tie.Need-enum-known-stop
 enum-known-stop c = search needs
 
-returns-2 : tie.Need-returns-2 Inv-loop μ-loop
-returns-2 c = reading-stopped (c .before .before .before .before .before .loop .inv) _ (c .before .before .before .next-length .ensures) _ (c .before .stop .given .1)
+returns : tie.Need-returns
+returns c = checked-rated _ _ (c .before .before .before .before .before .first-line .ensures) _ (c .before .before .before .opening .given .1) _ (c .check-breaths .ensures)
+
+returns-2 : tie.Need-returns-2
+returns-2 c = checked-end _ _ (c .before .before .first-line .ensures) (c .enum-told .given .1)
+
+returns-3 : tie.Need-returns-3
+returns-3 c = checked-stopped _ _ (c .before .before .before .first-line .ensures) _ (c .before .stop .given .1)
 
 pub check-spec : {M : Type 1} → statement M
 check-spec =
     tie.close
     (tie.spec
-    Inv-loop
-    μ-loop
-    loop-holds
-    sub-next-length
-    part-next-length-start
-    part-next-length-end
-    next-length-requires
-    enum-known-used
-    add-line
-    add-from
-    loop-less
-    loop-again
+    first-line-requires
+    enum-known-opening
+    sub-check-breaths
+    part-check-breaths-start
+    part-check-breaths-end
+    check-breaths-requires
     enum-told
-    returns
     enum-known-stop
-    returns-2)
+    returns
+    returns-2
+    returns-3)

@@ -1,7 +1,8 @@
 -- `stream::run::list` meets its contract. Assumes nothing.
-use Rattle.listing.proofs.NightLaws.{begun-real, real-night, night-real}
+use Rattle.listing.proofs.NightLaws.{begun-night, night-lines}
 use Rattle.listing.proofs.StepLaws.{piece-answer, piece-stops, piece-goes-on}
 use Rattle.listing.specs.Nights.{isNight}
+use Rattle.listing.specs.Steps.{nextLine}
 use Rattle.stream.proofs.InputLaws.{turnsLeft, turn-listed, turn-read, listed-on, waits-on}
 use Rattle.stream.proofs.RunLaws.{refused-tells}
 use Prim.Native.Nat.{_≤_}
@@ -9,7 +10,7 @@ use mathlib.Core.Bool.{true}
 use native.Mathlib.Omega.{arith}
 use lib.ListN.{length}
 use lib.Seq.{length-take-le}
-use mathlib.Core.Path.{_≡_, sym, ap, _∙_}
+use mathlib.Core.Path.{_≡_, sym, _∙_}
 use borrow.Author.Needs.{needs}
 use Rattle.stream.proofs.run.list.Statement.{statement}
 use Rattle.stream.proofs.run.list.Tie as tie
@@ -19,7 +20,7 @@ Inv-loop from to bytes₀ text₀ night₀ filled₀ last₀ bytes text night fi
     (16384 ≡ length bytes) × (32768 ≡ length text) × (filled ≤ length bytes) × (isNight night ≡ true)
 
 abbrev μ-loop : tie.MeasureT-loop
-μ-loop from to bytes₀ text₀ night₀ filled₀ last₀ bytes text night filled last = turnsLeft (night .line) filled last
+μ-loop from to bytes₀ text₀ night₀ filled₀ last₀ bytes text night filled last = turnsLeft (nextLine night) filled last
 
 input-buffer-requires : tie.Need-input-buffer-requires Inv-loop μ-loop
 input-buffer-requires c κs = search needs
@@ -27,11 +28,8 @@ input-buffer-requires c κs = search needs
 output-buffer-requires : tie.Need-output-buffer-requires Inv-loop μ-loop
 output-buffer-requires c κs = search needs
 
-begun-requires : tie.Need-begun-requires Inv-loop μ-loop
-begun-requires c κs = search needs
-
 loop-holds : tie.Need-loop-holds Inv-loop μ-loop
-loop-holds c = (c .before .before .input-buffer .ensures, c .before .output-buffer .ensures, omega (arith, c .before .before .input-buffer .ensures), ap isNight (c .begun .ensures) ∙ real-night _ begun-real)
+loop-holds c = (c .before .input-buffer .ensures, c .output-buffer .ensures, omega (arith, c .before .input-buffer .ensures), begun-night)
 
 array-share-prefix-bytes : tie.Need-array-share-prefix-bytes Inv-loop μ-loop
 array-share-prefix-bytes c = c .loop .inv .2
@@ -74,7 +72,7 @@ refuse-requires c κs = search needs
 
 returns-3 : tie.Need-returns-3 Inv-loop μ-loop
 returns-3 c =
-    refused-tells (c .before .before .before .before .before .before .before .before .list-piece .result .night) (night-real _ (piece-answer _ _ _ (c .before .before .before .before .before .before .before .before .before .before .before .loop .text) _ _ (c .before .before .before .before .before .before .before .before .before .before .before .loop .inv .3) (c .before .before .before .before .before .before .before .before .list-piece .ensures .0, c .before .before .before .before .before .before .before .before .list-piece .ensures .1 .0) .2))
+    refused-tells (c .before .before .before .before .before .before .before .before .list-piece .result .night) (piece-answer _ _ _ (c .before .before .before .before .before .before .before .before .before .before .before .loop .text) _ _ (c .before .before .before .before .before .before .before .before .before .before .before .loop .inv .3) (c .before .before .before .before .before .before .before .before .list-piece .ensures .0, c .before .before .before .before .before .before .before .before .list-piece .ensures .1 .0) .2)
     (c .before .before .before .before .before .before .before .before .list-piece .result .end) (piece-stops _ _ _ (c .before .before .before .before .before .before .before .before .before .before .before .loop .text) _ _ (c .before .before .before .before .before .before .before .before .before .before .before .loop .inv .3) (c .before .before .before .before .before .before .before .before .list-piece .ensures .0, c .before .before .before .before .before .before .before .before .list-piece .ensures .1 .0))
     _ (c .before .before .end .given .1) (c .refuse .result) (c .refuse .ensures)
 
@@ -88,18 +86,18 @@ slice-aggregate-move-to-front : tie.Need-slice-aggregate-move-to-front Inv-loop 
 slice-aggregate-move-to-front c = search needs
 
 move-to-front-requires : tie.Need-move-to-front-requires Inv-loop μ-loop
-move-to-front-requires c κs = (omega (arith, piece-answer _ _ _ (c .before .before .before .before .before .before .before .before .before .before .before .before .loop .text) _ _ (c .before .before .before .before .before .before .before .before .before .before .before .before .loop .inv .3) (c .before .before .before .before .before .before .before .before .before .list-piece .ensures .0, c .before .before .before .before .before .before .before .before .before .list-piece .ensures .1 .0) .0, length-take-le (c .before .before .before .before .before .before .before .before .before .before .before .before .loop .filled) (c .before .before .before .before .before .before .before .before .before .before .before .before .loop .bytes) (c .before .before .before .before .before .before .before .before .before .before .before .before .loop .inv .2)), c .before .before .before .before .before .before .before .before .before .before .before .before .loop .inv .2)
+move-to-front-requires c κs = (omega (arith, piece-answer _ _ _ (c .before .before .before .before .before .before .before .before .before .before .before .loop .text) _ _ (c .before .before .before .before .before .before .before .before .before .before .before .loop .inv .3) (c .before .before .before .before .before .before .before .before .list-piece .ensures .0, c .before .before .before .before .before .before .before .before .list-piece .ensures .1 .0) .0, length-take-le (c .before .before .before .before .before .before .before .before .before .before .before .loop .filled) (c .before .before .before .before .before .before .before .before .before .before .before .loop .bytes) (c .before .before .before .before .before .before .before .before .before .before .before .loop .inv .2)), c .before .before .before .before .before .before .before .before .before .before .before .loop .inv .2)
 
 loop-less : tie.Need-loop-less Inv-loop μ-loop
 loop-less c =
-    let answer = piece-answer _ _ _ (c .before .before .before .before .before .before .before .before .before .before .before .before .before .before .loop .text) _ _ (c .before .before .before .before .before .before .before .before .before .before .before .before .before .before .loop .inv .3) (c .before .before .before .before .before .before .before .before .before .before .before .list-piece .ensures .0, c .before .before .before .before .before .before .before .before .before .before .before .list-piece .ensures .1 .0) in
-    let goes = piece-goes-on _ _ _ (c .before .before .before .before .before .before .before .before .before .before .before .before .before .before .loop .text) _ _ (c .before .before .before .before .before .before .before .before .before .before .before .before .before .before .loop .inv .3) (c .before .before .before .before .before .before .before .before .before .before .before .list-piece .ensures .0, c .before .before .before .before .before .before .before .before .before .before .before .list-piece .ensures .1 .0) (omega (arith, c .before .before .before .before .before .before .before .before .before .before .before .before .before .before .loop .inv .1)) (c .before .before .before .before .before .enum-told .given .1) in
-    turn-listed _ _ _ _ _ (listed-on _ _ _ _ _ goes (omega (arith, c .before .before .before .before .if2 .taken))) (night-real _ (answer .2) .few)
+    let answer = piece-answer _ _ _ (c .before .before .before .before .before .before .before .before .before .before .before .before .before .loop .text) _ _ (c .before .before .before .before .before .before .before .before .before .before .before .before .before .loop .inv .3) (c .before .before .before .before .before .before .before .before .before .before .list-piece .ensures .0, c .before .before .before .before .before .before .before .before .before .before .list-piece .ensures .1 .0) in
+    let goes = piece-goes-on _ _ _ (c .before .before .before .before .before .before .before .before .before .before .before .before .before .loop .text) _ _ (c .before .before .before .before .before .before .before .before .before .before .before .before .before .loop .inv .3) (c .before .before .before .before .before .before .before .before .before .before .list-piece .ensures .0, c .before .before .before .before .before .before .before .before .before .before .list-piece .ensures .1 .0) (omega (arith, c .before .before .before .before .before .before .before .before .before .before .before .before .before .loop .inv .1)) (c .before .before .before .before .enum-told .given .1) in
+    turn-listed _ _ _ _ _ (listed-on _ _ _ _ _ goes (omega (arith, c .before .before .before .if2 .taken))) (night-lines _ (answer .2) .1)
 
 loop-again : tie.Need-loop-again Inv-loop μ-loop
 loop-again c =
-    let answer = piece-answer _ _ _ (c .before .before .before .before .before .before .before .before .before .before .before .before .before .before .loop .text) _ _ (c .before .before .before .before .before .before .before .before .before .before .before .before .before .before .loop .inv .3) (c .before .before .before .before .before .before .before .before .before .before .before .list-piece .ensures .0, c .before .before .before .before .before .before .before .before .before .before .before .list-piece .ensures .1 .0) in
-    (search needs, search needs, omega (arith, c .before .move-to-front .ensures .0, c .before .before .before .before .before .before .before .before .before .before .before .before .before .before .loop .inv .2), answer .2)
+    let answer = piece-answer _ _ _ (c .before .before .before .before .before .before .before .before .before .before .before .before .before .loop .text) _ _ (c .before .before .before .before .before .before .before .before .before .before .before .before .before .loop .inv .3) (c .before .before .before .before .before .before .before .before .before .before .list-piece .ensures .0, c .before .before .before .before .before .before .before .before .before .before .list-piece .ensures .1 .0) in
+    (search needs, search needs, omega (arith, c .before .move-to-front .ensures .0, c .before .before .before .before .before .before .before .before .before .before .before .before .before .loop .inv .2), answer .2)
 
 slice-aggregate-read-more : tie.Need-slice-aggregate-read-more Inv-loop μ-loop
 slice-aggregate-read-more c = search needs
@@ -131,7 +129,6 @@ list-spec =
     μ-loop
     input-buffer-requires
     output-buffer-requires
-    begun-requires
     loop-holds
     array-share-prefix-bytes
     slice-aggregate-list-piece

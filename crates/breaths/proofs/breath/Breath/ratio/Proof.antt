@@ -18,10 +18,10 @@ of-parts-requires : tie.Need-of-parts-requires
 of-parts-requires c κs = search needs
 
 returns : tie.Need-returns
-returns c = breath-void _ (sym (c .before .is-void .ensures) ∙ c .if1 .taken)
+returns c = breath-void _ _ (sym (c .before .is-void .ensures) ∙ c .if1 .taken)
 
 returns-2 : tie.Need-returns-2
-returns-2 c = breath-word _ (sym (c .before .before .before .before .is-void .ensures) ∙ c .before .before .before .if1 .left) _ (c .of-parts .ensures)
+returns-2 c = breath-word _ _ (sym (c .before .before .before .before .is-void .ensures) ∙ c .before .before .before .if1 .left) _ (c .of-parts .ensures)
 
 pub ratio-spec : {M : Type 1} → statement M
 ratio-spec =

@@ -1,10 +1,10 @@
--- `recording::reading::next_line` meets its contract. Assumes nothing.
+-- `recording::reading::next_breath` meets its contract. Assumes nothing.
 use Rattle.recording.proofs.ReadingLaws.{next-quick}
 use Rattle.recording.proofs.StepLaws.{breath-found}
 use native.Mathlib.Omega.{arith}
 use borrow.Author.Needs.{needs}
-use Rattle.recording.proofs.reading.next_line.Statement.{statement}
-use Rattle.recording.proofs.reading.next_line.Tie as tie
+use Rattle.recording.proofs.reading.next_breath.Statement.{statement}
+use Rattle.recording.proofs.reading.next_breath.Tie as tie
 
 read-breath-requires : tie.Need-read-breath-requires
 read-breath-requires c κs = search needs
@@ -24,7 +24,7 @@ any-line-requires c κs = search needs
 returns-2 : tie.Need-returns-2
 returns-2 c = search needs
 
-pub next-line-spec : {M : Type 1} → statement M
-next-line-spec =
+pub next-breath-spec : {M : Type 1} → statement M
+next-breath-spec =
     tie.close
     (tie.spec read-breath-requires enum-known-entry returns enum-told any-line-requires returns-2)
