@@ -127,13 +127,29 @@ static uint64_t write_word(form f, const number *value) {
     }
 }
 
-uint64_t gmp_round(uint64_t kind, uint64_t k, uint64_t numerator, uint64_t denominator) {
+/* What a word says, in the order of the header: no rational is asked for. */
+void gmp_read(uint64_t kind, uint64_t k, uint64_t word, uint64_t value[5]) {
+    form f = form_of(kind, k);
+    parts(f, word, &value[2], &value[3]);
+    bool is_number = value[2] != 0 || value[3] != 0;
+    value[0] = is_number ? word >> f.sign_at & 1 : 0;
+    value[1] = !is_number ? 4 : value[3] == 0 ? 3 : value[2] == 0 ? 2 : 1;
+    value[4] = word >> f.mark_at & 1;
+}
+
+uint64_t gmp_write(uint64_t kind, uint64_t k, uint64_t sign, uint64_t mark, uint64_t numerator,
+                   uint64_t denominator) {
     number *result = &result_number;
     result->class = FINITE;
-    result->negative = result->marked = false;
+    result->negative = sign;
+    result->marked = mark;
     mpq_set_ui(result->size, numerator, denominator);
     mpq_canonicalize(result->size);
     return write_word(form_of(kind, k), result);
+}
+
+uint64_t gmp_round(uint64_t kind, uint64_t k, uint64_t numerator, uint64_t denominator) {
+    return gmp_write(kind, k, 0, 0, numerator, denominator);
 }
 
 /* The word of a breath in fixed k = 15, 0 where it is void. */

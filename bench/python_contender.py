@@ -179,6 +179,22 @@ def round_ratio(_, form, __, n, d):
     return form.write(FINITE, 0, 0, Fraction(n, d))
 
 
+def read_value(_, form, __, word, ___):
+    """What a word says: sign, mark and parts beside one another, and the class added."""
+    r, s = form.parts(word)
+    value_class = (1 if r else 2) if s else 3 if r else 4
+    sign = word >> form.sign_at & 1 if r or s else 0
+    mark = word >> form.mark_at & 1
+    return (sign << 63 | mark << 62 | r << 31 | s) + value_class & 2**64 - 1
+
+
+def write_value(_, form, __, sign_mark_and_numerator, denominator):
+    """The word of a fraction; its sign and mark come in one number with its numerator."""
+    sign_and_mark, numerator = divmod(sign_mark_and_numerator, 2**62)
+    sign, mark = divmod(sign_and_mark, 2)
+    return form.write(FINITE, sign, mark, Fraction(numerator, denominator))
+
+
 def breath(_, form, __, rate_and_onset, peak_and_next):
     """The word of a breath, 0 where it is void; two inputs come in one number."""
     rate, onset = divmod(rate_and_onset, 2**32)
@@ -254,6 +270,8 @@ def folded(results):
 
 
 OPERATIONS = {
+    "read": read_value,
+    "write": write_value,
     "round": round_ratio,
     "breath": breath,
     "binary": binary,

@@ -1,11 +1,8 @@
 /* Imports breaths that a scoring package exported, as timings or as ratios: each record's ratio becomes a
  * word of fixed k = 15. Then the same again with a bad record among them, which is refused. */
 
-#include "slash.h"
+#include "show.h"
 
-#include <inttypes.h>
-#include <stdio.h>
-#include <stdlib.h>
 #include <string.h>
 
 #define RECORDS 4
@@ -31,15 +28,15 @@ static void write_number(float number, uint8_t *bytes) {
     write_bits(bits, bytes);
 }
 
-/* Prints what a record says, and the fraction and the mark of its word. */
-static void print_word(const struct record *record, uint64_t word) {
+/* Prints what a record says, and its word. */
+static void print_record(const struct record *record, uint64_t word) {
+    char name[64];
     if (record->kind == SLASH_RECORD_TIMINGS) {
-        printf("%g s of %g s", record->first, record->second);
+        snprintf(name, sizeof name, "%g s of %g s", record->first, record->second);
     } else {
-        printf("ratio %g", record->first);
+        snprintf(name, sizeof name, "ratio %g", record->first);
     }
-    printf(": word %08" PRIx64 ", %" PRIu64 "/%" PRIu64 ", %s\n", word, word >> 16 & 0x7fff,
-           word & 0x7fff, (word >> 15 & 1) != 0 ? "approximate" : "exact");
+    print_word(name, SLASH_FIXED, 15, word);
 }
 
 /* Imports the records, in the bytes that the package exports, and prints their words, or why they are
@@ -55,12 +52,12 @@ static int print_imported(const struct record *records) {
     }
     uint64_t returned = slash_timings(exported, sizeof exported, words, RECORDS);
     if (returned != 0) {
-        printf("the records: stop %" PRIu64 " at record %" PRIu64 ", no word is stored\n",
-               SLASH_STOP_NUMBER(returned), SLASH_STOP_PLACE(returned));
+        printf("the records: stop %" PRIu64 " at record %" PRIu64 ", %s; no word is stored\n",
+               SLASH_STOP_NUMBER(returned), SLASH_STOP_PLACE(returned), slash_stop_text(returned));
         return 0;
     }
     for (size_t i = 0; i < RECORDS; i++) {
-        print_word(&records[i], words[i]);
+        print_record(&records[i], words[i]);
     }
     return 1;
 }

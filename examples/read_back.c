@@ -21,8 +21,8 @@ static int print_loaded(const char *listing) {
     uint64_t returned = slash_load((const uint8_t *)listing, strlen(listing), numbers,
                                    SLASH_MOST_BREATHS, words, SLASH_MOST_BREATHS, &count, &total);
     if (returned != 0) {
-        printf("the listing: stop %" PRIu64 " at line %" PRIu64 ", nothing is read back\n",
-               SLASH_STOP_NUMBER(returned), SLASH_STOP_PLACE(returned));
+        printf("the listing: stop %" PRIu64 " at line %" PRIu64 ", %s; nothing is read back\n",
+               SLASH_STOP_NUMBER(returned), SLASH_STOP_PLACE(returned), slash_stop_text(returned));
         return 0;
     }
     for (uint64_t i = 0; i < count; i++) {

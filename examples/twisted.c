@@ -2,11 +2,8 @@
  * whole, and the papers' 355/113 into floating words, twists them, masks the numerators out,
  * and untwists them. */
 
-#include "slash.h"
+#include "show.h"
 
-#include <inttypes.h>
-#include <stdio.h>
-#include <stdlib.h>
 #include <string.h>
 
 /* The format: its slash position has 5 bits, as 2^5 is the least power of 2 that is at least 26. */
@@ -16,15 +13,6 @@
 #define RATIOS 3
 
 static const uint64_t ratios[RATIOS][2] = {{277, 642}, {16, 40}, {355, 113}};
-
-/* Leaves if a call was refused. */
-static void check(const char *call, uint64_t returned) {
-    if (returned != 0) {
-        fprintf(stderr, "%s: stop %" PRIu64 " at %" PRIu64 "\n", call, SLASH_STOP_NUMBER(returned),
-                SLASH_STOP_PLACE(returned));
-        exit(EXIT_FAILURE);
-    }
-}
 
 /* The numerator of a twisted word: one AND, with a mask by its slash position. An infinity or a
  * not-a-number has none, and gets 0. */
@@ -59,6 +47,6 @@ int main(void) {
 
     /* A fixed word has its numerator at one place always: such a format is refused. */
     uint64_t returned = slash_twist_each(SLASH_FIXED, 15, words, RATIOS, twisted, RATIOS);
-    printf("fixed k = 15: stop %" PRIu64 "\n", SLASH_STOP_NUMBER(returned));
+    printf("fixed k = 15: stop %" PRIu64 ", %s\n", SLASH_STOP_NUMBER(returned), slash_stop_text(returned));
     return is_same ? EXIT_SUCCESS : EXIT_FAILURE;
 }

@@ -5,6 +5,8 @@ use std::hint::black_box;
 /// What a row asks for; a vector's operations apply to all inputs by one call.
 #[derive(Clone, Copy, PartialEq)]
 pub enum Operation {
+    Read,
+    Write,
     Round,
     Breath,
     Binary(u64),
@@ -78,6 +80,25 @@ fn unpacked(a: u64, b: u64) -> (u64, [u32; 3]) {
     (a >> 32, [a as u32, (b >> 32) as u32, b as u32])
 }
 
+/// What a word says in one number: sign, mark, and the parts, which have 31 bits at most; the class, which the parts
+/// tell, is added.
+fn packed_value(sign: u64, class: u64, numerator: u64, denominator: u64, mark: u64) -> u64 {
+    (sign << 63 | mark << 62 | numerator << 31 | denominator).wrapping_add(class)
+}
+
+/// The inputs of a fraction that is written: its sign, mark and numerator, then its denominator.
+pub fn packed_fraction(sign: u64, mark: u64, (numerator, denominator): (u64, u64)) -> (u64, u64) {
+    (sign << 63 | mark << 62 | numerator, denominator)
+}
+
+/// The sign, the mark and the numerator of packed inputs.
+fn unpacked_fraction(a: u64) -> (u64, u64, u64) {
+    (a >> 63, a >> 62 & 1, a & ((1 << 62) - 1))
+}
+
+/// The class of fractions.
+const FRACTION: u64 = 1;
+
 /// A contender behind the C interface, so that what calls cost is the same for each.
 macro_rules! through_c {
     ($(#[$about:meta])* $name:ident, $calls:path) => {
@@ -93,10 +114,26 @@ macro_rules! through_c {
             );
             let mut word = 0;
             let mut list = [0; 64];
+            let mut value = calls::Value::default();
             let (l, r, o) = (left.as_ptr(), right.as_ptr(), out.as_mut_ptr());
             // SAFETY: the pointers are those of live numbers and vectors, with their lengths.
             let status = unsafe {
                 match row.operation {
+                    Read => {
+                        return each(inputs, out, |a, _| {
+                            calls::slash_read(kind, k, a, &mut value);
+                            let calls::Value { sign, value_class, numerator, denominator, mark } = value;
+                            packed_value(sign, value_class, numerator, denominator, mark)
+                        })
+                    }
+                    Write => {
+                        return each(inputs, out, |a, denominator| {
+                            let (sign, mark, numerator) = unpacked_fraction(a);
+                            value = calls::Value { sign, value_class: FRACTION, numerator, denominator, mark };
+                            calls::slash_write(kind, k, &value, &mut word);
+                            word
+                        })
+                    }
                     Round => {
                         return each(inputs, out, |n, d| {
                             calls::slash_round(kind, k, n, d, &mut word);
@@ -185,23 +222,25 @@ through_c!(
 through_c!(
     /// The hand-written Rust.
     hand,
-    hand_calls
+    handwritten::c
 );
 
 through_c!(
     /// The hand-written Rust, twisting with tables.
     tables,
-    hand_calls::tables
+    handwritten::c::tables
 );
 
 through_c!(
     /// The hand-written Rust, with halving where a breath's ratio is held.
     halving,
-    hand_calls::halving
+    handwritten::c::halving
 );
 
 extern "C" {
     fn gmp_start();
+    fn gmp_read(kind: u64, k: u64, word: u64, value: *mut [u64; 5]);
+    fn gmp_write(kind: u64, k: u64, sign: u64, mark: u64, n: u64, d: u64) -> u64;
     fn gmp_round(kind: u64, k: u64, n: u64, d: u64) -> u64;
     fn gmp_breath(rate: u64, onset: u32, peak: u32, next: u32) -> u64;
     fn gmp_binary(kind: u64, k: u64, code: u64, left: u64, right: u64) -> u64;
@@ -218,8 +257,8 @@ pub type Night = unsafe extern "C" fn(*const u8, usize, *mut u8, *mut u64) -> u6
 /// The archive's, then the hand-written one, then the one with halving.
 pub const NIGHTS: [Night; 3] = [
     slash::raw::slash_night,
-    hand_calls::slash_night,
-    hand_calls::halving::slash_night,
+    handwritten::c::slash_night,
+    handwritten::c::halving::slash_night,
 ];
 
 /// What the function returns for a recording, and the length that it stores, 0 where it stores none.
@@ -231,6 +270,42 @@ pub fn listed(night: Night, recording: &[u8], listing: &mut [u8]) -> (u64, usize
     let status = unsafe { night(start, count, listing.as_mut_ptr(), &mut length) };
     (status, length as usize)
 }
+
+/// Lists a recording in pieces: buffers of so many bytes of it and of text. Each text goes to `take`. Gives what
+/// the last call returned.
+pub type Pieces = fn(recording: &[u8], size: usize, take: &mut dyn FnMut(&[u8])) -> u64;
+
+/// A caller of pieces through the C interface, who has the whole recording at hand and copies nothing of it.
+macro_rules! pieces_through_c {
+    ($name:ident, $calls:path) => {
+        fn $name(recording: &[u8], size: usize, take: &mut dyn FnMut(&[u8])) -> u64 {
+            use $calls as calls;
+            let (mut night, mut piece) = (calls::NightState::default(), calls::Piece::default());
+            let (mut rest, mut text) = (recording, vec![0; size]);
+            while piece.ended == 0 {
+                let count = rest.len().min(size);
+                let last = u64::from(count == rest.len());
+                let (bytes, lent) = (rest.as_ptr(), text.as_mut_ptr());
+                // SAFETY: the pointers are those of live bytes, with their lengths, and of live structs.
+                let status = unsafe {
+                    calls::slash_night_piece(&mut night, bytes, count, last, lent, size, &mut piece)
+                };
+                if status != 0 {
+                    return status;
+                }
+                take(&text[..piece.length as usize]);
+                rest = &rest[piece.used as usize..];
+            }
+            0
+        }
+    };
+}
+
+pieces_through_c!(archive_pieces, slash::raw);
+pieces_through_c!(hand_pieces, handwritten::c);
+
+/// The archive's, then the hand-written one.
+pub const PIECES: [Pieces; 2] = [archive_pieces, hand_pieces];
 
 /// A function that reads a listing back through the C interface.
 pub type Load = unsafe extern "C" fn(
@@ -245,7 +320,7 @@ pub type Load = unsafe extern "C" fn(
 ) -> u64;
 
 /// The archive's, then the hand-written one.
-pub const LOADS: [Load; 2] = [slash::raw::slash_load, hand_calls::slash_load];
+pub const LOADS: [Load; 2] = [slash::raw::slash_load, handwritten::c::slash_load];
 
 /// What a listing is read back into: lists of breath numbers and words, the count, the total's word.
 #[derive(Debug, PartialEq)]
@@ -281,8 +356,8 @@ pub type Timings = unsafe extern "C" fn(*const u8, usize, *mut u64, usize) -> u6
 /// The archive's, then the hand-written one in lanes, then the one that goes record by record.
 pub const TIMINGS: [Timings; 3] = [
     slash::raw::slash_timings,
-    hand_calls::slash_timings,
-    hand_calls::by_record::slash_timings,
+    handwritten::c::slash_timings,
+    handwritten::c::by_record::slash_timings,
 ];
 
 /// What the function returns for records.
@@ -302,10 +377,19 @@ pub fn start_gmp() {
 pub fn gmp(row: &Row, out: &mut [u64]) {
     let ((kind, k), (to_kind, to_k)) = (black_box(row.form), black_box(row.target));
     let inputs = &row.inputs[..out.len()];
-    let mut list = [0; 64];
+    let (mut list, mut value) = ([0; 64], [0; 5]);
     // SAFETY: one thread, after start_gmp; the list is as long as the most quotients.
     unsafe {
         match row.operation {
+            Read => each(inputs, out, |a, _| {
+                gmp_read(kind, k, a, &mut value);
+                let [sign, class, numerator, denominator, mark] = value;
+                packed_value(sign, class, numerator, denominator, mark)
+            }),
+            Write => each(inputs, out, |a, denominator| {
+                let (sign, mark, numerator) = unpacked_fraction(a);
+                gmp_write(kind, k, sign, mark, numerator, denominator)
+            }),
             Round => each(inputs, out, |n, d| gmp_round(kind, k, n, d)),
             Breath => each(inputs, out, |a, b| {
                 let (rate, [onset, peak, next]) = unpacked(a, b);
@@ -334,6 +418,8 @@ pub fn gmp(row: &Row, out: &mut [u64]) {
 /// The name and the code by which Python's contender knows an operation.
 pub fn python_name(operation: Operation) -> (&'static str, u64) {
     match operation {
+        Read => ("read", 0),
+        Write => ("write", 0),
         Round => ("round", 0),
         Breath => ("breath", 0),
         Binary(code) | BinaryEach(code) => ("binary", code),

@@ -1,5 +1,7 @@
 //! The inputs that every contender gets: random, and the same in each run.
 
+use crate::contenders::packed_fraction;
+
 /// The ticks of a sleeper's clock in a second.
 pub const RATE: u32 = 1024;
 
@@ -30,6 +32,13 @@ impl Source {
     /// A ratio whose parts have this many bits at most, the denominator not 0.
     pub fn ratio(&mut self, bits: u64) -> (u64, u64) {
         (self.part(bits), self.part(bits))
+    }
+
+    /// The inputs of a fraction that a format holds, of either sign, marked or not.
+    pub fn fraction(&mut self, (kind, k): (u64, u64)) -> (u64, u64) {
+        let (sign, mark) = (self.below(2), self.below(2));
+        let bits = if kind == 1 { k } else { k / 2 };
+        packed_fraction(sign, mark, self.ratio(bits))
     }
 
     /// A good word: a fraction, and one time in 16 a zero, an infinity or a not-a-number.

@@ -8,6 +8,7 @@ mod contenders;
 mod halving;
 mod inputs;
 mod loading;
+mod pieces;
 mod tables;
 mod timings;
 
@@ -48,6 +49,7 @@ fn main() {
     rows.extend(twisting_rows(&mut source));
     rows.extend(counting_rows());
     rows.push(breath_row());
+    rows.extend(value_rows());
     let room = std::env::temp_dir().join(format!("bench-{}", std::process::id()));
     fs::create_dir_all(&room).expect("a temporary folder");
     print!("{}", head());
@@ -59,6 +61,7 @@ fn main() {
         "{}",
         table_of_nights(&recording, &nights, &room, Path::new(folder), night)
     );
+    print!("{}", pieces::section(&recording));
     print!("{}", halving::section(&rows, &times, &nights));
     print!("{}", loading::section(&recording));
     print!("{}", timings::section(&mut source));
@@ -115,6 +118,19 @@ fn rows(source: &mut Source) -> Vec<Row> {
 fn breath_row() -> Row {
     let (name, operation) = ("one breath, stored", Operation::Breath);
     row(&mut Source::new(4), name, operation, FIXED_15, FIXED_15)
+}
+
+/// Words taken apart, and fractions written whose parts the format holds, in lowest terms or not. Their inputs are
+/// drawn from a source of their own, for the same reason.
+fn value_rows() -> Vec<Row> {
+    let mut source = Source::new(6);
+    let mut rows = Vec::new();
+    for (name, operation) in [("read", Operation::Read), ("write", Operation::Write)] {
+        for form in [FIXED_15, FIXED_31, FLOATING_32] {
+            rows.push(row(&mut source, name, operation, form, form));
+        }
+    }
+    rows
 }
 
 /// Their inputs are drawn from a source of their own, for the same reason.
@@ -181,6 +197,7 @@ fn inputs_of(source: &mut Source, operation: Operation, form: (u64, u64)) -> Vec
     (0..CALLS)
         .map(|_| match operation {
             Operation::Round => source.ratio(ratio_bits),
+            Operation::Write => source.fraction(form),
             _ => (source.word(form), source.word(form)),
         })
         .collect()
@@ -292,7 +309,8 @@ fn table_of_calls(rows: &[Row], times: &[Times], python_ratios: &[Vec<f64>]) -> 
     let mut table = String::from(
         "## Calls\n\n\
          Nanoseconds a call (a vector: a place), then how many times as long as the archive each of the \
-         others takes: below 1 it is faster, above 1 slower. A dash: it takes no part.\n\n\
+         others takes: below 1 it is faster, above 1 slower. A dash: it takes no part. (To read a word takes no \
+         rational: there GMP's column is plain C.)\n\n\
          | | Archive, ns | Hand-written Rust | GMP | Python's Fraction |\n|---|--:|--:|--:|--:|\n",
     );
     for ((row, [archive, hand, third, _]), python) in rows.iter().zip(times).zip(python_ratios) {

@@ -8,9 +8,10 @@ and their clauses, must-fail edits, cases of the second program, decisions. In e
 but the notes on changes: each name in backticks is that of something in the repository, and behind
 a crate's name of something of that crate. Then: every must-fail edit is cited under its crate,
 every public function has two wrong programs and a row in CLAIMS.md, every crate has a row in
-README.md or ARCHITECTURE.md, include/slash.h declares the functions of crates/ffi and no others,
-the sources of the partial quotients have no array, and what must be trusted stands apart
-(trusted.py).
+README.md or ARCHITECTURE.md, include/slash.h declares the functions of crates/lekhnaom and no others,
+the header's numbers and structs are those of the code, what `night` says of a stop are its words, the version stands in the header and heads
+CHANGELOG.md, the sources of the partial quotients have no array, and what must be trusted stands
+apart (trusted.py).
 
 Prints each failure as `file:line: what is wrong`, and ends with status 1 where there is any.
 """
@@ -29,13 +30,40 @@ from trusted import Trusted
 from words import Words
 
 README, ARCHITECTURE, HEADER = "README.md", "docs/ARCHITECTURE.md", "include/slash.h"
+CHANGELOG, REPORT = "CHANGELOG.md", "crates/stream/src/report.rt"
+
+# The header's numbers that the code has too: a constant of a file of crates/, or its only array of so many bytes.
+NUMBERS = {
+    "FIXED": ("slash/src/format.rt", r"const FIXED: u64 = (\d+);"),
+    "FLOATING": ("slash/src/format.rt", r"const FLOATING: u64 = (\d+);"),
+    "FRACTION": ("lekhnaom/src/values.rt", r"const FRACTION: u64 = (\d+);"),
+    "ZERO": ("lekhnaom/src/values.rt", r"const ZERO: u64 = (\d+);"),
+    "INFINITY": ("lekhnaom/src/values.rt", r"const INFINITY: u64 = (\d+);"),
+    "NOT_A_NUMBER": ("lekhnaom/src/values.rt", r"const NOT_A_NUMBER: u64 = (\d+);"),
+    "NO_NIGHT": ("lekhnaom/src/pieces.rt", r"const NO_NIGHT: u64 = (\d+);"),
+    "BAD_RATE": ("breaths/src/rate.rt", r"const REFUSED: u64 = (\d+);"),
+    "MOST_RATE": ("breaths/src/rate.rt", r"const MOST: u64 = (\d+);"),
+    "MOST_BREATHS": ("text/src/line.rt", r"const MOST_BREATHS: u32 = (\d+);"),
+    "LINE_BYTES": ("text/src/line.rt", r"const LONGEST_LINE: usize = (\d+);"),
+    "LISTING_BYTES": ("lekhnaom/src/nights.rt", r"\[u8; (\d+)\]"),
+}
+
+# The header's structs, and the parameters that lend them as numbers in a row.
+STRUCTS = {
+    "slash_value": ("lekhnaom/src/values.rt", r"value: &(?:mut )?\[u64; (\d+)\]"),
+    "slash_night_state": ("lekhnaom/src/pieces.rt", r"night: &mut \[u64; (\d+)\]"),
+    "slash_piece": ("lekhnaom/src/pieces.rt", r"piece: &mut \[u64; (\d+)\]"),
+}
+
+# The stops that a recording can have: `night` says each in words.
+SAID_BY_NIGHT = ("8", "9", "10", "11", "19")
 
 # Measured figures, written by a program; and the notes on changes, which name what was there before.
 LEFT_OUT = ("bench/RESULTS.md", "docs/changes/")
 
 # Where CLAIMS.md says that there is no array besides the caller's list (CR 6). Brackets there are those of
 # an index, of an attribute or of a slice that is lent, `[u32]`; any others are an array's.
-WITHOUT_ARRAYS = ("crates/euclid/src/", "crates/ffi/src/words.rt")
+WITHOUT_ARRAYS = ("crates/euclid/src/", "crates/lekhnaom/src/words.rt")
 
 
 class Findings:
@@ -71,6 +99,10 @@ class Check:
         self.check_functions()
         self.check_crates()
         self.check_header()
+        self.check_numbers()
+        self.check_structs()
+        self.check_stop_texts()
+        self.check_version()
         self.check_arrays()
         self.trusted.check()
         return sorted(self.findings.failures)
@@ -107,11 +139,46 @@ class Check:
 
     def check_header(self):
         """The header declares what the crate for C defines."""
-        defined = {f.name for f in self.repo.public_functions() if f.crate == "ffi"}
+        defined = {f.name for f in self.repo.public_functions() if f.crate == "lekhnaom"}
         for name in self.repo.header - defined:
-            self.findings.fail(HEADER, 1, f"declares `{name}`, which crates/ffi doesn't define")
+            self.findings.fail(HEADER, 1, f"declares `{name}`, which crates/lekhnaom doesn't define")
         for name in defined - self.repo.header:
-            self.findings.fail(HEADER, 1, f"doesn't declare `{name}` of crates/ffi")
+            self.findings.fail(HEADER, 1, f"doesn't declare `{name}` of crates/lekhnaom")
+
+    def check_numbers(self):
+        """The header's numbers are those of the code."""
+        header = self.repo.text(HEADER)
+        for name, (path, pattern) in NUMBERS.items():
+            told = re.search(rf"^#define SLASH_{name} (\d+)", header, re.M)
+            had = set(re.findall(pattern, self.repo.text(f"crates/{path}")))
+            if not told or had != {told[1]}:
+                self.findings.fail(HEADER, 1, f"SLASH_{name} isn't the number in crates/{path}")
+
+    def check_structs(self):
+        """A struct of the header has as many numbers as the parameters that lend it."""
+        bodies = dict((n, b) for b, n in re.findall(r"typedef struct \{(.*?)\} (\w+);", self.repo.text(HEADER), re.S))
+        for name, (path, pattern) in STRUCTS.items():
+            fields = len(re.findall(r"^    uint64_t \w+;", bodies.get(name, ""), re.M))
+            had = set(re.findall(pattern, self.repo.text(f"crates/{path}")))
+            if had != {str(fields)}:
+                self.findings.fail(HEADER, 1, f"`{name}` has {fields} numbers, another count than in crates/{path}")
+
+    def check_stop_texts(self):
+        """What the program `night` says of a stop is the header's text of it."""
+        texts = dict(re.findall(r'case (\d+): return "(.*)";', self.repo.text(HEADER)))
+        said = set(re.findall(r'b"([^":]+)\\n"', self.repo.text(REPORT)))
+        for number in SAID_BY_NIGHT:
+            if texts.get(number) not in said:
+                self.findings.fail(REPORT, 1, f"doesn't say stop {number} as {HEADER} does")
+        for text in said - {texts.get(number) for number in SAID_BY_NIGHT}:
+            self.findings.fail(REPORT, 1, f"says `{text}`, which {HEADER} says of no such stop")
+
+    def check_version(self):
+        """The header's version is that of the newest entry of CHANGELOG.md."""
+        version = re.search(r'^#define SLASH_VERSION "(.*)"', self.repo.text(HEADER), re.M)
+        newest = re.search(r"^## ([\d.]+),", self.repo.text(CHANGELOG), re.M)
+        if not version or not newest or version[1] != newest[1]:
+            self.findings.fail(CHANGELOG, 1, f"its newest entry isn't of the version in {HEADER}")
 
     def check_arrays(self):
         """The partial quotients go into the caller's list, and stand in no array besides it."""

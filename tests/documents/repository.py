@@ -187,6 +187,6 @@ def is_public(function, exported):
     """Whether callers reach it: a C function, or by a `pub use`, or what lib.rt has itself."""
     if not function.declared_public or function.file == "main.rt":
         return False
-    if function.crate == "ffi" or function.owner in exported:
+    if function.crate == "lekhnaom" or function.owner in exported:
         return True
     return not function.owner and (function.name in exported or function.file == "lib.rt")

@@ -12,7 +12,7 @@ from pathlib import Path
 
 sys.dont_write_bytecode = True
 
-from check import ARCHITECTURE, HEADER, README, WITHOUT_ARRAYS, Check
+from check import ARCHITECTURE, CHANGELOG, HEADER, README, REPORT, SAID_BY_NIGHT, WITHOUT_ARRAYS, Check
 from tables import CLAIMS, WRONG
 from trusted import INTERNAL, THEOREM
 
@@ -184,7 +184,7 @@ def function_with_one_wrong_program(scratch, good):
 
 def function_not_claimed(scratch, good):
     """A public function more, in the code alone."""
-    libraries = [f.crate for f in good.repo.public_functions() if f.crate != "ffi"]
+    libraries = [f.crate for f in good.repo.public_functions() if f.crate != "lekhnaom"]
     path = f"crates/{libraries[0]}/src/lib.rt"
     scratch.write(path, good.repo.text(path) + f"\npub fn {NOTHING}() -> u64\n{{\n}}\n")
     return NOTHING
@@ -214,6 +214,41 @@ def header_without_a_function(scratch, good):
     line, match = line_with(good, HEADER, r"^\w+ (slash_\w+)\(")
     scratch.replace(HEADER, line, match[1], f"slash_{NOTHING}")
     return match[1]
+
+
+def number_of_the_header(scratch, good):
+    """The header has another number than the code."""
+    line, match = line_with(good, HEADER, r"^#define SLASH_ZERO (\d+)")
+    scratch.replace(HEADER, line, match[0], f"{match[0]}0")
+    return "SLASH_ZERO"
+
+
+def struct_with_a_number_more(scratch, good):
+    """A struct of the header has a number more than the code."""
+    line, match = line_with(good, HEADER, r"^    uint64_t used;")
+    scratch.replace(HEADER, line, match[0], f"{match[0]}\n    uint64_t more;")
+    return "slash_piece"
+
+
+def stop_in_other_words(scratch, good):
+    """The header says a stop of a recording in other words than `night` does."""
+    line, match = line_with(good, HEADER, rf'case {SAID_BY_NIGHT[0]}: return "(.*)";')
+    scratch.replace(HEADER, line, match[1], NOTHING)
+    return f"stop {SAID_BY_NIGHT[0]} as"
+
+
+def stop_that_night_says_of_none(scratch, good):
+    """`night` says what the header says of no stop of a recording."""
+    line, match = line_with(good, REPORT, r'b"([^":]+)\\n"')
+    scratch.replace(REPORT, line, match[1], NOTHING)
+    return f"says `{NOTHING}`"
+
+
+def version_of_another_entry(scratch, good):
+    """The newest entry of the changes is of another version."""
+    line, match = line_with(good, CHANGELOG, r"^## ([\d.]+),")
+    scratch.replace(CHANGELOG, line, match[1], f"{match[1]}.1")
+    return CHANGELOG
 
 
 def name_of_another_crate(scratch, good):
@@ -312,6 +347,11 @@ BREAKS = {
     "a decision by its number": decision_by_number,
     "a decision misspelt by another": decision_of_a_decision,
     "a header without a function": header_without_a_function,
+    "a number of the header that isn't the code's": number_of_the_header,
+    "a struct of the header with a number more": struct_with_a_number_more,
+    "a stop in other words than the header's": stop_in_other_words,
+    "words of `night` that the header hasn't": stop_that_night_says_of_none,
+    "a version that isn't the newest entry's": version_of_another_entry,
     "a run misspelt": misspelt("run"),
     "a name of another crate": name_of_another_crate,
     "a word that nothing has": word_of_readme,

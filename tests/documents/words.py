@@ -41,8 +41,9 @@ class Words:
         crate = "|".join(repo.crates)
         name = rf"`(?!(?:{crate})`)[^`]+`"
         self.of_crate = re.compile(rf"`({crate})` ({name}(?:, {name})*)")
-        wrapper = repo.text("wrapper/src/lib.rs")
-        self.wrapped = set(re.findall(r"^ *pub (?:const )?fn (\w+)", wrapper, re.M))
+        wrapper = [file for file in repo.files if re.match(r"wrapper/src/\w+\.rs$", file)]
+        functions = r"^ *pub (?:const )?fn (\w+)"
+        self.wrapped = {name for file in wrapper for name in re.findall(functions, repo.text(file), re.M)}
         self.known = self.all_names() | self.wrapped | set(ALLOWED)
 
     def all_names(self):
@@ -52,7 +53,11 @@ class Words:
         for modules in (*repo.definitions.values(), *repo.laws.values()):
             found.update(modules, *modules.values())
         found.update(*(f.clauses for f in repo.functions), *repo.edits.values())
-        found.update(re.findall(r"^#define (\w+)", repo.text("include/slash.h"), re.M))
+        header = repo.text("include/slash.h")
+        found.update(re.findall(r"^#define (\w+)", header, re.M))
+        found.update(re.findall(r"^} (slash_\w+);", header, re.M))
+        found.update(re.findall(r"^    uint64_t (\w+);", header, re.M))
+        found.update(re.findall(r"^static inline [\w *]+?(slash_\w+)\(", header, re.M))
         for file in repo.files:
             found.update({Path(file).name, Path(file).stem})
             if file.endswith(".antt"):
@@ -60,8 +65,14 @@ class Words:
         return found
 
     def check_document(self, path, tables=True):
-        """The names of a document's lines, and the calls in its lines of code."""
+        """The names of a document's lines, and the calls in its lines of code. A block between fences is of
+        another language, and is copied, not cited."""
+        fenced = False
         for line, words in self.repo.lines(path):
+            if words.startswith("```"):
+                fenced = not fenced
+            if fenced:
+                continue
             if tables or not words.startswith("|"):
                 self.check_names(path, line, words)
             if words.startswith("    "):

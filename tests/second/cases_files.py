@@ -18,34 +18,43 @@ LONGEST = 33
 # Two names that nothing can be read by: that of no file, and that of the folder of the files.
 UNREAD = ["missing", "."]
 
-# What is told where nothing can be written.
-UNWRITTEN = b"the listing cannot be written\n"
+# What is told where nothing can be read, and where nothing can be written.
+UNREADABLE = night.complaint_of("the recording cannot be read")
+UNWRITABLE = night.complaint_of("the listing cannot be written")
 
 
 def outputs():
     """The program's files: its arguments, each recording, and what must be printed."""
-    recordings = {**short(), **rates(), **at_ends_of_reads_and_writes(), **longest()}
-    for name, recording in recordings.items():
+    listed = recordings()
+    for name, recording in listed.items():
         yield f"data/{name}", [recording]
-    yield "args", (f"{name}\n".encode("ascii") for name in [*recordings, *UNREAD])
-    yield "stdout", printed(recordings)
+    yield "args", (f"{name}\n".encode("ascii") for name in [*listed, *UNREAD])
+    yield "stdout", printed(listed)
 
 
-def printed(recordings):
-    """Behind each name its listing and how its run ended; then each name again, listed in vain."""
-    for name, recording in recordings.items():
+def recordings():
+    """Each recording by its name."""
+    return {**short(), **rates(), **at_ends_of_reads_and_writes(), **longest()}
+
+
+def printed(listed):
+    """Behind each name its listing and how its run ended; then each name again, listed in vain.
+
+    What the program writes on standard error stands behind the listing.
+    """
+    for name, recording in listed.items():
         listing = night.listing(recording)
-        yield headed(name, listing, end_of(listing))
+        yield headed(name, listing + night.complaint(recording), end_of(listing))
     yield from unread()
-    for name in recordings:
-        yield headed(name, UNWRITTEN, b"unwritten\n")
+    for name in listed:
+        yield headed(name, UNWRITABLE, b"unwritten\n")
     yield from unread()
 
 
 def unread():
     """The names that nothing can be read by."""
     for name in UNREAD:
-        yield headed(name, b"the recording cannot be read\n", b"unread\n")
+        yield headed(name, UNREADABLE, b"unread\n")
 
 
 def headed(name, text, end):

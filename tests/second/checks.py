@@ -15,8 +15,10 @@ from cases_common import chosen, small_formats
 from cases_night import EXAMPLE, EXAMPLE_LISTING, RATE, next_to, ties
 from checks_breaths import check_breaths
 from checks_counts import check_counts
+from checks_inspect import check_inspect
 from checks_listings import check_listings
 from checks_source import check_source
+from checks_stops import check_stops
 from checks_timings import check_timings
 from checks_twisting import check_twisting
 from slash import FIXED, FRACTION, ZERO
@@ -171,6 +173,8 @@ def check_all():
     check_breaths()
     check_ties()
     check_listings()
+    check_stops()
+    check_inspect()
 
 
 def check_answers():

@@ -1,10 +1,14 @@
-"""The listing of a night's recording, from documents 00 and 01 and CRs 1, 3 and 7 of 02 alone."""
+"""The listing of a night's recording, from documents 00 and 01 and CRs 1, 3 and 7 of 02 alone.
+
+The papers have no line of standard error: what the program says there is decided beside them.
+"""
 
 from fractions import Fraction
 from functools import lru_cache
 
 import slash
 from slash import FIXED, Format, Stop
+from stops import STOP_TEXTS
 
 # Numbers of the stops that the recording can cause. 12, which CR 3 took away, stays reserved.
 TOO_MANY_BREATHS = 8
@@ -50,6 +54,21 @@ def listing(recording):
     except Stop as stop:
         listed.append(refusal(stop))
     return "".join(listed).encode("ascii")
+
+
+def complaint(recording):
+    """What is written on standard error beside a recording's listing: the stop in words, if any."""
+    try:
+        for _ in breaths_of(recording):
+            pass
+        return b""
+    except Stop as stop:
+        return complaint_of("line %d: %s" % (stop.place, STOP_TEXTS[stop.number]))
+
+
+def complaint_of(text):
+    """A line of standard error, as bytes."""
+    return b"night: " + text.encode("ascii") + b"\n"
 
 
 # The recording, read.

@@ -9,6 +9,7 @@ import cases_binary
 import cases_breaths
 import cases_counts
 import cases_files
+import cases_inspect
 import cases_load
 import cases_night
 import cases_print
@@ -20,6 +21,7 @@ import cases_unary
 import cases_vectors
 import cases_words
 import checks
+import inspecting
 import listings
 import night
 
@@ -55,6 +57,9 @@ def outputs():
     listing = night.listing(cases_night.varied_night())
     yield "relist", "stdin", [listing]
     yield "relist", "stdout", [listings.relisting(listing)]
+    words = cases_inspect.text()
+    yield "inspect", "stdin", [words]
+    yield "inspect", "stdout", [inspecting.inspection(words)]
     for name, parts in cases_files.outputs():
         yield "night_files", name, parts
 

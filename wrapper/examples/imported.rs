@@ -2,7 +2,7 @@
 //! word of fixed k = 15. Then the same again with a bad record among them, which is refused.
 
 use slash::raw::{RECORD_RATIO, RECORD_TIMINGS};
-use slash::Stop;
+use slash::{Format, Stop};
 
 /// Seconds of inspiration and of the whole breath, or the ratio.
 enum Record {
@@ -23,35 +23,39 @@ impl Record {
     }
 }
 
-/// Prints what a record says, and the fraction and the mark of its word.
-fn print_word(record: &Record, word: u64) {
+/// Prints what a record says, and its word, the fraction that it holds, and its mark.
+fn print_record(record: &Record, word: u64) -> Result<(), Stop> {
     match record {
         Record::Timings(inspiration, whole) => print!("{inspiration} s of {whole} s"),
         Record::Ratio(ratio) => print!("ratio {ratio}"),
     }
-    let (numerator, denominator) = (word >> 16 & 0x7fff, word & 0x7fff);
-    let mark = ["exact", "approximate"][(word >> 15 & 1) as usize];
-    println!(": word {word:08x}, {numerator}/{denominator}, {mark}");
+    println!(
+        ": word {word:08x}, {}",
+        slash::read(Format::fixed(15), word)?
+    );
+    Ok(())
 }
 
 /// Imports the records, in the bytes that the package exports, and prints their words, or why they are
 /// refused.
-fn print_imported(records: &[Record]) {
+fn print_imported(records: &[Record]) -> Result<(), Stop> {
     let exported: Vec<u8> = records.iter().flat_map(Record::exported).collect();
     let mut words = vec![0; records.len()];
     match slash::timings(&exported, &mut words) {
         Ok(()) => {
             for (record, word) in records.iter().zip(words) {
-                print_word(record, word);
+                print_record(record, word)?;
             }
         }
-        Err(Stop { number, place }) => {
-            println!("the records: stop {number} at record {place}, no word is stored")
+        Err(stop) => {
+            let (Stop { number, place }, text) = (stop, stop.text());
+            println!("the records: stop {number} at record {place}, {text}; no word is stored")
         }
     }
+    Ok(())
 }
 
-fn main() {
+fn main() -> Result<(), Stop> {
     // The floats for 1.6 and 0.1 lie close by, at fractions that no such word holds.
     let mut records = [
         Record::Timings(1.5, 4.0),
@@ -59,9 +63,9 @@ fn main() {
         Record::Ratio(0.375),
         Record::Ratio(0.1),
     ];
-    print_imported(&records);
+    print_imported(&records)?;
 
     // No inspiration is longer than its breath. Records are counted from 0.
     records[2] = Record::Timings(4.0, 1.5);
-    print_imported(&records);
+    print_imported(&records)
 }

@@ -18,8 +18,9 @@ fn print_loaded(listing: &str) {
             }
             println!("the night: {}", shown(total));
         }
-        Err(Stop { number, place }) => {
-            println!("the listing: stop {number} at line {place}, nothing is read back")
+        Err(stop) => {
+            let (Stop { number, place }, text) = (stop, stop.text());
+            println!("the listing: stop {number} at line {place}, {text}; nothing is read back")
         }
     }
 }

@@ -7,28 +7,25 @@ use std::cmp::Ordering;
 /// The recorder's clock ticks so many times a second.
 const RATE: u64 = 1024;
 
-/// Prints a fixed word and the fraction that it holds.
-fn print_fixed(name: &str, k: u64, word: u64) {
-    let part = (1 << k) - 1;
-    let (numerator, denominator) = (word >> (k + 1) & part, word & part);
-    let mark = ["exact", "approximate"][(word >> k & 1) as usize];
-    println!("{name}: word {word:08x}, {numerator}/{denominator}, {mark}");
+/// Prints a word of any format, the fraction that it holds, and its mark.
+fn print_word(name: &str, form: Format, word: u64) -> Result<(), Stop> {
+    println!("{name}: word {word:08x}, {}", slash::read(form, word)?);
+    Ok(())
 }
 
 /// Prints why a call was refused, and the word that was there before.
 fn print_refused(asked: &str, stop: Stop, word: u64) {
-    println!(
-        "{asked}: stop {}, the word is still {word:08x}",
-        stop.number
-    );
+    let (number, text) = (stop.number, stop.text());
+    println!("{asked}: stop {number}, {text}; the word is still {word:08x}");
 }
 
 /// Prints the listing of a recording, or why it has none.
 fn print_night(recording: &str) {
     match slash::night(recording.as_bytes()) {
         Ok(listing) => print!("{}", String::from_utf8_lossy(&listing)),
-        Err(Stop { number, place }) => {
-            println!("a night: stop {number} at line {place}, nothing is listed")
+        Err(stop) => {
+            let (Stop { number, place }, text) = (stop, stop.text());
+            println!("a night: stop {number} at line {place}, {text}; nothing is listed")
         }
     }
 }
@@ -37,7 +34,7 @@ fn main() -> Result<(), Stop> {
     // The recorder's format holds the ratio.
     let recorder = Format::fixed(15);
     let breath = slash::breath(RATE, 0, 277, 642)?;
-    print_fixed("fixed k = 15", 15, breath);
+    print_word("fixed k = 15", recorder, breath)?;
 
     // A next onset before its onset reads as a breath of nearly the whole clock: it is void, its word 0.
     let overlong = slash::breath(RATE, 642, 919, 600)?;
@@ -45,13 +42,15 @@ fn main() -> Result<(), Stop> {
     println!("an overlong breath: word {overlong:08x}{note}");
 
     // Nine bits can't hold the ratio: the word keeps the best pair that they hold, and is marked.
-    print_fixed("fixed k = 9", 9, slash::round(Format::fixed(9), 277, 642)?);
+    let short = Format::fixed(9);
+    print_word("fixed k = 9", short, slash::round(short, 277, 642)?)?;
 
     // To a floating word and back.
-    let floating = slash::convert(recorder, Format::floating(26), breath)?;
-    let back = slash::convert(Format::floating(26), recorder, floating)?;
-    println!("floating k = 26: word {floating:08x}");
-    print_fixed("back to fixed k = 15", 15, back);
+    let floating = Format::floating(26);
+    let there = slash::convert(recorder, floating, breath)?;
+    let back = slash::convert(floating, recorder, there)?;
+    print_word("floating k = 26", floating, there)?;
+    print_word("back to fixed k = 15", recorder, back)?;
     let equal = slash::compare(recorder, breath, back)? == Some(Ordering::Equal);
     println!(
         "the word that came back is {}",
@@ -71,8 +70,9 @@ fn main() -> Result<(), Stop> {
     let stop = slash::breath(0, 0, 277, 642).expect_err("a rate of 0");
     print_refused("rate 0", stop, breath);
 
-    // A night, one whose second breath lacks a field, and one without its rate.
+    // A night, one with nothing in it, one whose second breath lacks a field, and one without its rate.
     print_night("rate\t1024\n0\t277\t642\n4294967290\t10\t34\n100\t100\t100\n");
+    print_night("");
     print_night("rate\t1024\n0\t277\t642\n642\t900\n");
     print_night("0\t277\t642\n");
     Ok(())

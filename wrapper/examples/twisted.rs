@@ -41,6 +41,6 @@ fn main() -> Result<(), Stop> {
     // A fixed word has its numerator at one place always: such a format is refused.
     let stop =
         slash::twist_each(Format::fixed(15), &words, &mut twisted).expect_err("a fixed format");
-    println!("fixed k = 15: stop {}", stop.number);
+    println!("fixed k = 15: stop {}, {}", stop.number, stop.text());
     Ok(())
 }

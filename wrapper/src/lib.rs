@@ -4,9 +4,24 @@
 //! nothing that was lent to it.
 
 use std::cmp::Ordering;
-use std::fmt;
 
 pub mod raw;
+
+mod number;
+mod pieces;
+mod stop;
+
+/// What `include/slash.h` defines, without the prefix of its names. Not all of it has a use here.
+#[allow(dead_code)]
+mod header {
+    include!(concat!(env!("OUT_DIR"), "/header.rs"));
+}
+
+/// The product's version.
+pub use header::VERSION;
+pub use number::{Number, Value};
+pub use pieces::{list_from, Night, Piece, LINE_BYTES};
+pub use stop::Stop;
 
 /// The kind and the k of a word format; one that doesn't exist gets stop 1.
 #[derive(Clone, Copy, Debug, PartialEq, Eq)]
@@ -18,83 +33,40 @@ pub struct Format {
 impl Format {
     /// The fixed format with parts of k bits, k from 2 to 31.
     pub const fn fixed(k: u64) -> Format {
-        Format { kind: 1, k }
+        Format {
+            kind: header::FIXED,
+            k,
+        }
     }
 
     /// The floating format whose parts share k bits, k from 2 to 32.
     pub const fn floating(k: u64) -> Format {
-        Format { kind: 2, k }
-    }
-}
-
-/// A refused call: the stop's number, from 1 to 19 but never 12, and its place: the index in a vector or of
-/// a record, the line of a recording or a listing, else 0.
-#[derive(Clone, Copy, Debug, PartialEq, Eq)]
-pub struct Stop {
-    pub number: u8,
-    pub place: u64,
-}
-
-impl Stop {
-    fn check(status: u64) -> Result<(), Stop> {
-        match status {
-            0 => Ok(()),
-            _ => Err(Stop {
-                number: status as u8,
-                place: status >> 8,
-            }),
+        Format {
+            kind: header::FLOATING,
+            k,
         }
     }
 }
 
-impl fmt::Display for Stop {
-    fn fmt(&self, f: &mut fmt::Formatter) -> fmt::Result {
-        let meaning = match self.number {
-            1 => "unknown kind or k, or a fixed format given to twisting",
-            2 => "unknown operation code",
-            3 => "vectors of unequal length, or other than one place a record",
-            4 => "word with bits above its width",
-            5 => "undefined slash position",
-            6 => "denominator 0 given to rounding",
-            7 => "list shorter than the quotients or the breaths",
-            8 => "breath 65,537 begins",
-            9 => "over 32 bytes before the line feed, or no line feed",
-            10 => "not three fields",
-            11 => "a field is not a tick mark",
-            13 => "a line without the shape of a listed one",
-            14 => "a number out of sequence, or `all` missing, not last, or first and not the void line",
-            15 => "a word that no listing has, or columns of another",
-            16 => "a byte count that is not a multiple of 12",
-            17 => "a record of an unknown kind",
-            18 => "a number that no record of its kind has",
-            19 => "a rate out of 1 to 4096, or a first line that is no rate line",
-            _ => "unknown stop",
-        };
-        write!(f, "stop {} at {}: {meaning}", self.number, self.place)
-    }
-}
-
-impl std::error::Error for Stop {}
-
 /// The operations on two words, by their codes.
 #[derive(Clone, Copy, Debug, PartialEq, Eq)]
 pub enum Binary {
-    Add = 1,
-    Subtract = 2,
-    Multiply = 3,
-    Divide = 4,
+    Add = header::ADD as isize,
+    Subtract = header::SUBTRACT as isize,
+    Multiply = header::MULTIPLY as isize,
+    Divide = header::DIVIDE as isize,
 }
 
 /// The operations on one word, by their codes.
 #[derive(Clone, Copy, Debug, PartialEq, Eq)]
 pub enum Unary {
-    Negate = 1,
-    Absolute = 2,
-    Reciprocal = 3,
-    Floor = 4,
-    Ceiling = 5,
-    ModOne = 6,
-    Normalise = 7,
+    Negate = header::NEGATE as isize,
+    Absolute = header::ABSOLUTE as isize,
+    Reciprocal = header::RECIPROCAL as isize,
+    Floor = header::FLOOR as isize,
+    Ceiling = header::CEILING as isize,
+    ModOne = header::MOD_ONE as isize,
+    Normalise = header::NORMALISE as isize,
 }
 
 /// The number that a call stores where it isn't refused.
@@ -104,9 +76,42 @@ fn stored(call: impl FnOnce(*mut u64) -> u64) -> Result<u64, Stop> {
     Ok(number)
 }
 
+/// How many bits a word of the format has, at most 64; stop 1.
+pub fn width(form: Format) -> Result<u32, Stop> {
+    // SAFETY: in every such block the pointers come from live, aligned Rust values, with their lengths.
+    let width = stored(|width| unsafe { raw::slash_width(form.kind, form.k, width) })?;
+    Ok(width as u32)
+}
+
+/// The largest numerator of a fraction that the format holds; the largest denominator is the same. Stop 1.
+pub fn largest(form: Format) -> Result<u64, Stop> {
+    stored(|largest| unsafe { raw::slash_largest(form.kind, form.k, largest) })
+}
+
+/// Whether the word is one of the format; its stop, 1, 4 or 5, where it isn't.
+pub fn check(form: Format, word: u64) -> Result<(), Stop> {
+    Stop::check(unsafe { raw::slash_check(form.kind, form.k, word) })
+}
+
+/// What a word says; stops 1, then 4 and 5.
+pub fn read(form: Format, word: u64) -> Result<Number, Stop> {
+    let mut value = raw::Value::default();
+    Stop::check(unsafe { raw::slash_read(form.kind, form.k, word, &mut value) })?;
+    Ok(Number::of_stored(value))
+}
+
+/// The canonical word of a number; stops 1, then 6 for a fraction with denominator 0.
+///
+/// A fraction, whichever its parts are, is rounded as [`round`] does it, and keeps its sign; the word is marked
+/// if the number is approximate or rounding changed it. A not-a-number has one word, without a mark. What
+/// [`read`] gives of a word is written as the word normalised.
+pub fn write(form: Format, number: Number) -> Result<u64, Stop> {
+    let value = number.to_stored();
+    stored(|word| unsafe { raw::slash_write(form.kind, form.k, &value, word) })
+}
+
 /// The word of n/d rounded into the format; stops 1, then 6.
 pub fn round(form: Format, n: u64, d: u64) -> Result<u64, Stop> {
-    // SAFETY: in every such block the pointers come from live, aligned Rust values, with their lengths.
     stored(|word| unsafe { raw::slash_round(form.kind, form.k, n, d, word) })
 }
 
@@ -127,9 +132,9 @@ pub fn compare(form: Format, left: u64, right: u64) -> Result<Option<Ordering>, 
     let order =
         stored(|order| unsafe { raw::slash_compare(form.kind, form.k, left, right, order) })?;
     Ok(match order {
-        0 => Some(Ordering::Less),
-        1 => Some(Ordering::Equal),
-        2 => Some(Ordering::Greater),
+        header::BELOW => Some(Ordering::Less),
+        header::EQUAL => Some(Ordering::Equal),
+        header::ABOVE => Some(Ordering::Greater),
         _ => None,
     })
 }
@@ -292,7 +297,7 @@ pub fn breath(rate: u64, onset: u32, peak: u32, next: u32) -> Result<u64, Stop> 
 ///
 /// Any other opens with the line `rate`, a tab and the ticks a second, by which [`breath`] tells what is void.
 /// The line is the first bad one, the rate line being line 1. The lines before it are good: they have a
-/// listing of their own.
+/// listing of their own, which [`list_from`] writes, through small buffers.
 pub fn night(recording: &[u8]) -> Result<Vec<u8>, Stop> {
     let mut listing = vec![0; raw::LISTING_BYTES];
     let (start, count) = (recording.as_ptr(), recording.len());

@@ -4,24 +4,61 @@
 //!
 //! # Safety
 //!
-//! A pointer is aligned and not null, also where its length is 0, and points to as many numbers as its
-//! length says (`listing` to `LISTING_BYTES` bytes, any other pointer without a length to one number).
-//! What is written through one pointer is reached through no other during the call.
+//! A pointer is aligned and not null, and points to as many numbers as its length says (`listing` to
+//! `LISTING_BYTES` bytes, any other pointer without a length to one number or one struct). Where its length
+//! is 0 it may be null. What is written through one pointer is reached through no other during the call.
+
+use crate::header;
 
 /// The bytes that are lent for a listing: none has more.
-pub const LISTING_BYTES: usize = 2_162_719;
+pub const LISTING_BYTES: usize = header::LISTING_BYTES as usize;
 
 /// The most breaths of a listing: lists of so many places are never too short for it.
-pub const MOST_BREATHS: usize = 65_536;
+pub const MOST_BREATHS: usize = header::MOST_BREATHS as usize;
 
 /// The bytes of one record that the scoring package exports.
-pub const RECORD_BYTES: usize = 12;
+pub const RECORD_BYTES: usize = header::RECORD_BYTES as usize;
 
 /// The kinds of its records.
-pub const RECORD_TIMINGS: u32 = 1;
-pub const RECORD_RATIO: u32 = 2;
+pub const RECORD_TIMINGS: u32 = header::RECORD_TIMINGS as u32;
+pub const RECORD_RATIO: u32 = header::RECORD_RATIO as u32;
+
+/// What a word says: `slash_value`, whose fields the header tells.
+#[repr(C)]
+#[derive(Clone, Copy, Debug, Default, PartialEq, Eq)]
+pub struct Value {
+    pub sign: u64,
+    pub value_class: u64,
+    pub numerator: u64,
+    pub denominator: u64,
+    pub mark: u64,
+}
+
+/// A night that is listed in pieces: `slash_night_state`, all 0 where nothing of it is read.
+#[repr(C)]
+#[derive(Clone, Copy, Debug, Default, PartialEq, Eq)]
+pub struct NightState {
+    pub rate: u64,
+    pub breath: u64,
+    pub inspiration: u64,
+    pub whole: u64,
+}
+
+/// What a piece came to: `slash_piece`.
+#[repr(C)]
+#[derive(Clone, Copy, Debug, Default, PartialEq, Eq)]
+pub struct Piece {
+    pub used: u64,
+    pub length: u64,
+    pub ended: u64,
+}
 
 extern "C" {
+    pub fn slash_width(kind: u64, k: u64, width: *mut u64) -> u64;
+    pub fn slash_largest(kind: u64, k: u64, largest: *mut u64) -> u64;
+    pub fn slash_check(kind: u64, k: u64, word: u64) -> u64;
+    pub fn slash_read(kind: u64, k: u64, word: u64, value: *mut Value) -> u64;
+    pub fn slash_write(kind: u64, k: u64, value: *const Value, word: *mut u64) -> u64;
     pub fn slash_round(kind: u64, k: u64, n: u64, d: u64, word: *mut u64) -> u64;
     pub fn slash_binary(kind: u64, k: u64, code: u64, left: u64, right: u64, word: *mut u64)
         -> u64;
@@ -99,6 +136,15 @@ extern "C" {
         recording_length: usize,
         listing: *mut u8,
         length: *mut u64,
+    ) -> u64;
+    pub fn slash_night_piece(
+        night: *mut NightState,
+        bytes: *const u8,
+        bytes_length: usize,
+        last: u64,
+        text: *mut u8,
+        text_length: usize,
+        piece: *mut Piece,
     ) -> u64;
     pub fn slash_load(
         text: *const u8,

@@ -34,6 +34,12 @@ pub fn longest(rate: u64) -> Option<u32> {
     is_rate.then(|| MOST_SECONDS * rate as u32)
 }
 
+/// The rate of which these are the ticks of the longest breath.
+#[inline]
+pub fn rate(longest: u32) -> u64 {
+    (longest / MOST_SECONDS).into()
+}
+
 /// The word of a breath with these durations.
 #[inline]
 pub fn word<const HALVING: bool>(longest: u32, inward: u32, whole: u32) -> u32 {

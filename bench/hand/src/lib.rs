@@ -3,12 +3,14 @@
 //! A refused call returns `Err` of its place times 256 plus the stop's number.
 
 pub mod breath;
+pub mod c;
 mod line;
 pub mod load;
 pub mod night;
 pub mod tables;
 pub mod timings;
 pub mod twisting;
+pub mod value;
 
 pub type Answer = Result<u64, u64>;
 
@@ -78,6 +80,19 @@ impl Form {
     fn last_position(self) -> u64 {
         (1 << self.slash_bits) - 1
     }
+
+    /// The bits of a word.
+    #[inline]
+    fn width(self) -> u32 {
+        self.sign_at + 1
+    }
+
+    /// The largest part of a fraction: the other part of a floating one takes a bit at least.
+    #[inline]
+    fn largest(self) -> u64 {
+        let bits = if self.fixed { self.k } else { self.k - 1 };
+        (1 << bits) - 1
+    }
 }
 
 // Words.
@@ -131,7 +146,7 @@ fn finite(negative: bool, marked: bool, n: u64, d: u64) -> Number {
 
 #[inline]
 fn read(form: Form, word: u64) -> Result<Number, u64> {
-    if form.sign_at < 63 && word >> (form.sign_at + 1) != 0 {
+    if form.width() < 64 && word >> form.width() != 0 {
         return Err(BITS_ABOVE_WIDTH);
     }
     let negative = word >> form.sign_at & 1 == 1;

@@ -12,6 +12,9 @@ pub const LISTING_BYTES: usize = 2_162_719;
 /// The largest tick mark, the longest that is none too large.
 const LARGEST_MARK: &[u8] = b"4294967295";
 
+/// The number that the breath behind the last one would have.
+const BEHIND_ALL: u64 = MOST_BREATHS as u64 + 1;
+
 /// What stands before the rate in its line.
 const RATE: &[u8] = b"rate\t";
 
@@ -39,6 +42,20 @@ fn end_of(recording: &[u8]) -> End {
         }
     }
 }
+
+/// A night between two pieces, as C has it: all 0 where nothing of it is read.
+#[repr(C)]
+#[derive(Clone, Copy, Debug, Default, PartialEq, Eq)]
+pub struct State {
+    pub rate: u64,
+    /// The number of the next breath.
+    pub breath: u64,
+    pub inspiration: u64,
+    pub whole: u64,
+}
+
+/// The stop of a state that no recording has.
+const NO_NIGHT: u64 = 255;
 
 /// A night that is being listed, with HALVING as `breath` says.
 pub struct Night<const HALVING: bool> {
@@ -74,26 +91,73 @@ impl<const HALVING: bool> Night<HALVING> {
         }
     }
 
-    /// Lists the lines at the start of some bytes, while they are sure and have room. A stop behind
-    /// lines that were listed is left to the next call, which stores nothing.
+    /// The night of a state. Breaths that aren't void have any whole from 1 to the longest, and any in up to that: so
+    /// all sums within these limits are those of some breaths.
+    #[inline]
+    pub fn of(state: State) -> Result<Self, u64> {
+        if state == State::default() {
+            return Ok(Night::begun());
+        }
+        let (Some(longest), 1..=BEHIND_ALL) = (breath::longest(state.rate), state.breath) else {
+            return Err(NO_NIGHT);
+        };
+        if state.inspiration > state.whole || state.whole > (state.breath - 1) * u64::from(longest)
+        {
+            return Err(NO_NIGHT);
+        }
+        Ok(Night {
+            longest,
+            breath: state.breath as u32,
+            in_sum: state.inspiration,
+            whole_sum: state.whole,
+        })
+    }
+
+    /// The state of the night.
+    #[inline]
+    pub fn state(&self) -> State {
+        if self.longest == 0 {
+            return State::default();
+        }
+        State {
+            rate: breath::rate(self.longest),
+            breath: self.breath.into(),
+            inspiration: self.in_sum,
+            whole: self.whole_sum,
+        }
+    }
+
+    /// Lists the lines at the start of some bytes, while they are sure and have room, the rate line too. A stop
+    /// behind lines that were used is left to the call that begins with its line, which stores nothing.
     #[inline]
     pub fn piece(&mut self, recording: &[u8], last: bool, bytes: &mut [u8]) -> Piece {
         let mut listing = Listing { bytes, length: 0 };
-        match self.rate_line(recording, last) {
-            Ok(used) => {
-                let breaths = &recording[used..];
-                let (rest, end) = self.breaths(breaths, last, &mut listing);
-                Piece {
-                    used: recording.len() - rest.len(),
-                    length: listing.length,
-                    end,
-                }
-            }
-            Err(end) => Piece {
-                used: 0,
-                length: 0,
-                end,
+        let (rest, end) = self.lines(recording, last, &mut listing);
+        let used = recording.len() - rest.len();
+        Piece {
+            used,
+            length: listing.length,
+            end: match end {
+                End::Refused { .. } if used > 0 => End::Open,
+                end => end,
             },
+        }
+    }
+
+    /// Lists lines; gives the bytes that are left, and how they go on.
+    #[inline]
+    fn lines<'a>(
+        &mut self,
+        recording: &'a [u8],
+        last: bool,
+        listing: &mut Listing,
+    ) -> (&'a [u8], End) {
+        if listing.bytes.len() < MOST_BYTES {
+            return (recording, End::Open);
+        }
+        match self.rate_line(recording, last) {
+            Ok(used) => self.breaths(&recording[used..], last, listing),
+            Err(end) => (recording, end),
         }
     }
 
@@ -109,7 +173,7 @@ impl<const HALVING: bool> Night<HALVING> {
         Ok(used)
     }
 
-    /// Lists breaths, and behind the last one the total; gives the bytes that are left.
+    /// Lists breaths, and behind the last one the total; gives the bytes that are left, and how they go on.
     #[inline]
     fn breaths<'a>(
         &mut self,
@@ -131,8 +195,7 @@ impl<const HALVING: bool> Night<HALVING> {
                     listing.word(self.total());
                     return (rest, End::Closed);
                 }
-                Err(refused) if rest.len() == breaths.len() => return (rest, refused),
-                Err(_) => break,
+                Err(refused) => return (rest, refused),
             }
         }
         (rest, End::Open)

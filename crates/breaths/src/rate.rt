@@ -37,10 +37,17 @@ impl Rate {
         })
     }
 
+    // The ticks a second.
+    pub fn per_second(self) -> u64
+        ensures { λ r. ⌜ r ≡ self .ticks ⌝ }
+    {
+        self.ticks as u64
+    }
+
     // The longest whole of a breath that isn't void, in ticks.
     pub fn longest_whole(self) -> u64
         ensures { λ r. ⌜ r ≡ 120 * self .ticks ⌝ }
     {
-        MOST_SECONDS * (self.ticks as u64)
+        MOST_SECONDS * self.per_second()
     }
 }

@@ -1,7 +1,7 @@
 -- A listing in pieces. Assumes nothing.
 -- `piece-listing`: from a night on, the listing of some bytes and whatever follows them is the piece's text, and then what it goes on with.
 -- `piece-refusing`: a piece that is refused lists nothing. `piece-sound`: from a night of a recording on, a piece uses no more bytes than there are, its text has room, and the
--- night behind it and its stop are those of a recording. `piece-on`: an open piece with room for a line took one, or
+-- night behind it and its stop are those of a recording; `piece-rate`: and the night's rate is one. `piece-on`: an open piece with room for a line took one, or
 -- waits for bytes.
 use mathlib.Core.Path.{_≡_, refl, sym, ap, _∙_, subst}
 use mathlib.Core.Logic.{_⊎_, inl, inr}
@@ -17,8 +17,10 @@ use lib.Seq.{drop-append-le, drop-drop}
 use borrow.Author.Tests.{leb-true, ltb-true, ltb-false, le-leb, lt-leb}
 use Rattle.convergents.specs.Choice.{if_then_else_}
 use Rattle.slash.specs.Answers.{Outcome, stop, done, Stops}
+use Rattle.breaths.specs.Rates.{isRate}
 use Rattle.breaths.specs.Sums.{noSums}
 use Rattle.breaths.specs.declared.breath.Breath.{Breath}
+use Rattle.breaths.specs.declared.rate.Rate.{Rate}
 use Rattle.text.specs.Scan.{lengthBefore}
 use Rattle.text.specs.Lines.{refusedLine}
 use Rattle.text.proofs.ScanLaws.{before-le}
@@ -482,6 +484,63 @@ unfolding isNight
 piece-sound Begun bs last room e = sound-first bs last room
 piece-sound (Rated night) bs last room e =
     subst (Sound bs room) (sym (rated-is night bs last room e)) (sound (65538 - night .breath) night bs last room (night-real night e))
+
+-- ---- that its rate is one
+
+-- The rate of a night, where it is read, is one from 1 to 4096.
+abbrev pub RateIn : Night → Type 0
+RateIn Begun = Unit {0}
+RateIn (Rated night) = isRate (night .rate .ticks) ≡ true
+
+rate-endsHere : (night : Night) (text : List ℕ) (end : End) → RateIn night → RateIn (endsHere night text end .night)
+unfolding endsHere
+rate-endsHere night text end g = g
+
+rate-lineThen : (line : List ℕ) (used : ℕ) (l : ListedPiece) → RateIn (l .night) → RateIn (lineThen line used l .night)
+unfolding lineThen
+rate-lineThen line used l g = g
+
+rate-withLine : (night : RatedNight) (b : Breath) → RateIn (Rated night) → RateIn (Rated (withLine night b))
+unfolding withLine
+rate-withLine night b g = g
+
+rate-opened : (rate : Rate) → isRate (rate .ticks) ≡ true → RateIn (Rated (rated rate))
+unfolding rated
+rate-opened rate g = g
+
+rate-from : (steps : ℕ) (night : RatedNight) (bs : List ℕ) (last : Bool) (room : ℕ) → RateIn (Rated night) → RateIn (pieceFrom steps night bs last room .night)
+unfolding pieceFrom
+rate-from zero night bs last room g = rate-endsHere (Rated night) [] Open g
+rate-from (suc steps) night bs last room g =
+    pieces-case steps night bs last room (λ (l : ListedPiece). RateIn (l .night))
+    (λ t. rate-endsHere (Rated night) [] Open g)
+    (λ t entry n. further-rate entry
+    (rate-from steps (withLine night (entry .breath)) (drop (entry .used) bs) last (room - length (breathLine (night .rate .ticks) (night .breath) (entry .breath))) (rate-withLine night (entry .breath) g)))
+    (λ t n. rate-endsHere (Rated night) (allLine (night .sums)) Closed g)
+    (λ t number place n. rate-endsHere (Rated night) [] _ g)
+  where
+    further-rate : (entry : Entry)
+        → RateIn (pieceFrom steps (withLine night (entry .breath)) (drop (entry .used) bs) last (room - length (breathLine (night .rate .ticks) (night .breath) (entry .breath))) .night)
+        → RateIn (further steps night bs last room entry .night)
+    further-rate entry ih = rate-lineThen _ (entry .used) _ ih
+
+rate-first : (bs : List ℕ) (last : Bool) (room : ℕ) → RateIn (pieceOf Begun bs last room .night)
+rate-first bs last room =
+    first-case bs last room (λ (l : ListedPiece). RateIn (l .night))
+    (λ t. rate-endsHere Begun [] Open tt)
+    (λ t o e. after-rate o e)
+    (λ t e. rate-endsHere Begun (allLine noSums) Closed tt)
+    (λ t number place e. rate-endsHere Begun [] _ tt)
+  where
+    after-rate : (o : Opening) → firstOf bs ≡ done (aRate o) → RateIn (afterRate bs last room o .night)
+    after-rate o e =
+        rate-lineThen [] (o .used) _ (rate-from 65537 (rated (o .rate)) (drop (o .used) bs) last room (rate-opened (o .rate) (first-rated bs o e .1)))
+
+pub piece-rate : (night : Night) (bs : List ℕ) (last : Bool) (room : ℕ) → isNight night ≡ true → RateIn night → RateIn (pieceOf night bs last room .night)
+unfolding isNight
+piece-rate Begun bs last room e g = rate-first bs last room
+piece-rate (Rated night) bs last room e g =
+    subst (λ (l : ListedPiece). RateIn (l .night)) (sym (rated-is night bs last room e)) (rate-from (65538 - night .breath) night bs last room g)
 
 -- ---- that a piece goes on
 

@@ -4,6 +4,7 @@ ghost use mathlib.Core.Logic.{_⊎_};
 ghost use lib.ListN.{length};
 ghost use Rattle.stream.specs.Runs.{runOutcome, Tells};
 use crate::input;
+use crate::report::report;
 use listing::End;
 use listing::Night;
 use slash::Stop;
@@ -95,21 +96,7 @@ pub fn list(from: i32, to: i32) -> Run
     }
 }
 
-// Tells why a listing is cut. A refused recording's listing tells its stop.
-fn report(run: Run, errors: i32) {
-    match run {
-        Run::Listed => {}
-        Run::Refused(_) => {}
-        Run::Unread => {
-            io::write_all(errors, b"the recording cannot be read\n");
-        }
-        Run::Unwritten => {
-            io::write_all(errors, b"the listing cannot be written\n");
-        }
-    }
-}
-
-// The same, and a listing that is cut is told: what the program `night` does.
+// The same, and what was refused or is cut is said in words: what the program `night` does.
 pub fn night(from: i32, to: i32, errors: i32) -> Run
     ensures { λ r. ⌜ Tells (runOutcome r) ⌝ }
 {

@@ -14,7 +14,7 @@ const MOST_BYTES: usize = 32;
 const RATES: RangeInclusive<u64> = 1..=4096;
 
 /// The seconds of the longest breath that isn't void.
-const MOST_SECONDS: u64 = 120;
+pub const MOST_SECONDS: u64 = 120;
 
 // Breaths.
 
@@ -98,18 +98,24 @@ pub fn ratio_word(pair: Pair) -> u64 {
 
 /// The listing of a recording, or the stop of its first bad line.
 pub fn listing(recording: &[u8]) -> Answer<Vec<u8>> {
-    let mut listed = String::new();
-    list(recording, &mut listed)?;
-    Ok(listed.into_bytes())
+    let (lines, end) = listed(recording);
+    end.map(|()| lines)
 }
 
 /// The bytes that `night` prints for a recording: of a refused one the breaths before its bad line too.
 pub fn printed(recording: &[u8]) -> Vec<u8> {
-    let mut listed = String::new();
-    if let Err(Stop { number, place }) = list(recording, &mut listed) {
-        listed += &format!("refused\t{number}\t{place}\n");
+    let (mut lines, end) = listed(recording);
+    if let Err(Stop { number, place }) = end {
+        lines.extend(format!("refused\t{number}\t{place}\n").bytes());
     }
-    listed.into_bytes()
+    lines
+}
+
+/// The lines that are listed of a recording, of a refused one those before its bad line, and how it ends.
+pub fn listed(recording: &[u8]) -> (Vec<u8>, Answer<()>) {
+    let mut lines = String::new();
+    let end = list(recording, &mut lines);
+    (lines.into_bytes(), end)
 }
 
 /// Lists the breaths up to a bad line or, where there is none, to the line `all`.
@@ -143,11 +149,15 @@ fn list_breaths<'a>(
         *listed += &line(&number.to_string(), breath.word(rate));
         sums = breath.added(rate, sums).expect("sums of 64 bits");
     }
-    // A breath that isn't void has a whole of 1 or more.
-    Ok(match sums {
+    Ok(total(sums))
+}
+
+/// The word of the sums of in and whole: a breath that isn't void has a whole of 1 or more.
+pub fn total(sums: (u64, u64)) -> u64 {
+    match sums {
         (_, 0) => VOID,
         (in_sum, whole_sum) => ratio_word((in_sum.into(), whole_sum.into())),
-    })
+    }
 }
 
 /// The stop with a number at a line.
@@ -166,7 +176,7 @@ fn text_of(line: &[u8]) -> Result<&[u8], u64> {
 }
 
 /// The rate that the first line tells, or a stop's number.
-fn rate_of(line: &[u8]) -> Result<u64, u64> {
+pub fn rate_of(line: &[u8]) -> Result<u64, u64> {
     let rate = text_of(line)?
         .strip_prefix(b"rate\t")
         .and_then(whole_number);
@@ -176,7 +186,7 @@ fn rate_of(line: &[u8]) -> Result<u64, u64> {
 }
 
 /// The breath of a line, or a stop's number.
-fn breath_of(line: &[u8]) -> Result<Breath, u64> {
+pub fn breath_of(line: &[u8]) -> Result<Breath, u64> {
     let fields: Vec<&[u8]> = text_of(line)?.split(|&byte| byte == b'\t').collect();
     let [onset, peak, next] = fields[..] else {
         return Err(10);
@@ -239,20 +249,20 @@ mod tests {
                            all\t012502aa\t293/682\t43.0\n";
     const NOTHING: &str = "all\t00000000\t-\t-\n";
 
-    fn listed(recording: &str) -> String {
+    fn text(recording: &str) -> String {
         String::from_utf8(printed(recording.as_bytes())).expect("text")
     }
 
     #[test]
     fn the_papers_recording_behind_its_rate_prints_the_same() {
-        assert_eq!(listed(&format!("rate\t1024\n{PAPERS}")), LISTING);
+        assert_eq!(text(&format!("rate\t1024\n{PAPERS}")), LISTING);
         assert_eq!(breath(1024, 0, 277, 642), Ok(0x0115_0282));
     }
 
     #[test]
     fn a_night_without_a_breath_prints_a_void_all() {
-        assert_eq!(listed(""), NOTHING);
-        assert_eq!(listed("rate\t1\n"), NOTHING);
+        assert_eq!(text(""), NOTHING);
+        assert_eq!(text("rate\t1\n"), NOTHING);
     }
 
     #[test]
@@ -264,7 +274,7 @@ mod tests {
         }
         // A next onset before its onset, and the total without it.
         assert_eq!(
-            listed("rate\t1\n0\t60\t120\n0\t0\t121\n7\t8\t6\n"),
+            text("rate\t1\n0\t60\t120\n0\t0\t121\n7\t8\t6\n"),
             "1\t00010002\t1/2\t50.0\n2\t00000000\t-\t-\n3\t00000000\t-\t-\nall\t00010002\t1/2\t50.0\n"
         );
     }
@@ -281,7 +291,7 @@ mod tests {
     fn a_first_line_that_is_no_rate_line_gets_9_or_19() {
         let refused = |first: &str, number: u64| {
             let expected = format!("refused\t{number}\t1\n");
-            assert_eq!(listed(&format!("{first}\n{PAPERS}")), expected, "{first:?}");
+            assert_eq!(text(&format!("{first}\n{PAPERS}")), expected, "{first:?}");
         };
         for first in [
             "",
@@ -304,17 +314,15 @@ mod tests {
         }
         refused(&format!("rate\t{}", "1".repeat(27)), 19);
         refused(&format!("rate\t{}", "1".repeat(28)), 9);
-        assert_eq!(listed("rate\t1024"), "refused\t9\t1\n");
+        assert_eq!(text("rate\t1024"), "refused\t9\t1\n");
     }
 
     #[test]
     fn stops_count_the_rate_line_and_breaths_do_not() {
-        assert_eq!(listed("rate\t1024\nrate\t1024\n"), "refused\t10\t2\n");
+        assert_eq!(text("rate\t1024\nrate\t1024\n"), "refused\t10\t2\n");
         let good = "0\t277\t642\n".repeat(65536);
-        assert!(
-            listed(&format!("rate\t1024\n{good}")).ends_with("\nall\t01150282\t277/642\t43.1\n")
-        );
-        let refused = listed(&format!("rate\t1024\n{good}0"));
+        assert!(text(&format!("rate\t1024\n{good}")).ends_with("\nall\t01150282\t277/642\t43.1\n"));
+        let refused = text(&format!("rate\t1024\n{good}0"));
         assert!(refused.ends_with("\n65536\t01150282\t277/642\t43.1\nrefused\t8\t65538\n"));
     }
 }

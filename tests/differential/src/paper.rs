@@ -188,7 +188,11 @@ fn fixed_size(numerator: u128, denominator: u128) -> Size {
 
 fn floating_size(form: Format, e: u128, f: u128) -> Answer<Size> {
     if e + 1 == 1 << form.slash_bits() {
-        return Ok(if f.is_multiple_of(2) { Infinite } else { NotANumber });
+        return Ok(if f.is_multiple_of(2) {
+            Infinite
+        } else {
+            NotANumber
+        });
     }
     if e > form.k as u128 - 2 {
         return stop(5);
@@ -542,7 +546,7 @@ pub fn gcd(form: Format, word: u64) -> Answer<u64> {
 }
 
 /// The greatest common divisor of two numbers that aren't 0, by halving and subtracting.
-fn binary_gcd(mut a: u64, mut b: u64) -> u64 {
+pub fn binary_gcd(mut a: u64, mut b: u64) -> u64 {
     let twos = (a | b).trailing_zeros();
     a >>= a.trailing_zeros();
     while b != 0 {

@@ -1,6 +1,6 @@
 //! Standard input's recording, listed on standard output piece by piece as it comes.
 
-use hand::night::{End, Night};
+use handwritten::night::{End, Night};
 use std::fs::File;
 use std::io::{self, Read, Write};
 use std::mem::ManuallyDrop;

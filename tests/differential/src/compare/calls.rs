@@ -9,13 +9,13 @@ use slash::raw;
 use std::fmt::Debug;
 
 /// What a lent number holds before the call.
-const LENT: u64 = 0x7e11_7a1e_7e11_7a1e;
+pub const LENT: u64 = 0x7e11_7a1e_7e11_7a1e;
 
 /// What a lent byte of a listing holds before the call.
-const LENT_BYTE: u8 = 0xa5;
+pub const LENT_BYTE: u8 = 0xa5;
 
 /// Numbers before and after what is lent, which no call may change.
-const GUARDS: usize = 4;
+pub const GUARDS: usize = 4;
 
 /// How many bytes after a listing are looked at where the whole rest isn't.
 const REST_SEEN: usize = 256;
@@ -28,23 +28,25 @@ const MOST_PRINTED: u64 = 20;
 
 pub struct Harness {
     pub counts: Counts,
+    /// Whether a pointer whose length is 0 is null.
+    pub empty_is_null: bool,
     listing: Vec<u8>,
 }
 
 /// What a call returns for an answer, and what it stores.
-fn told(answer: Answer<u64>) -> (u64, u64) {
+pub fn told(answer: Answer<u64>) -> (u64, u64) {
     match answer {
         Ok(number) => (0, number),
         Err(stop) => (status(stop), LENT),
     }
 }
 
-fn status(stop: Stop) -> u64 {
+pub fn status(stop: Stop) -> u64 {
     stop.place * 256 + stop.number
 }
 
 /// What a call returns and leaves in the number that it is lent.
-fn stored(call: impl FnOnce(*mut u64) -> u64) -> (u64, u64) {
+pub fn stored(call: impl FnOnce(*mut u64) -> u64) -> (u64, u64) {
     let mut number = LENT;
     let returned = call(&mut number);
     (returned, number)
@@ -68,18 +70,8 @@ fn quotient_list(length: usize) -> Vec<u32> {
     vec![LENT as u32; GUARDS + length + GUARDS]
 }
 
-/// What the archive returns and stores for a list of quotients of this length, and that list with
-/// its guards.
-fn archive_quotients((kind, k): (u64, u64), operand: u64, length: usize) -> ((u64, u64), Vec<u32>) {
-    let mut list = quotient_list(length);
-    let start = list[GUARDS..].as_mut_ptr();
-    let told =
-        stored(|count| unsafe { raw::slash_quotients(kind, k, operand, start, length, count) });
-    (told, list)
-}
-
 /// The start of a text, to be printed.
-fn shown(bytes: &[u8]) -> String {
+pub fn shown(bytes: &[u8]) -> String {
     String::from_utf8_lossy(&bytes[..bytes.len().min(500)]).into_owned()
 }
 
@@ -88,12 +80,31 @@ impl Harness {
         let listing = vec![LENT_BYTE; GUARDS + raw::LISTING_BYTES + GUARDS];
         Harness {
             counts: Counts::new(),
+            empty_is_null: false,
             listing,
         }
     }
 
+    /// The pointer that a slice is lent by.
+    pub fn start<T>(&self, slice: &[T]) -> *const T {
+        if self.empty_is_null && slice.is_empty() {
+            std::ptr::null()
+        } else {
+            slice.as_ptr()
+        }
+    }
+
+    /// The pointer that a slice is lent by to be written.
+    pub fn start_mut<T>(&self, slice: &mut [T]) -> *mut T {
+        if self.empty_is_null && slice.is_empty() {
+            std::ptr::null_mut()
+        } else {
+            slice.as_mut_ptr()
+        }
+    }
+
     /// Counts a case, and prints its input where the archive's answer isn't the papers'.
-    fn hold<T: PartialEq + Debug>(
+    pub fn hold<T: PartialEq + Debug>(
         &mut self,
         name: &'static str,
         input: impl Debug,
@@ -174,9 +185,24 @@ impl Harness {
         );
     }
 
+    /// What the archive returns and stores for a list of quotients of this length, and that list with
+    /// its guards.
+    fn archive_quotients(
+        &self,
+        (kind, k): (u64, u64),
+        operand: u64,
+        length: usize,
+    ) -> ((u64, u64), Vec<u32>) {
+        let mut list = quotient_list(length);
+        let start = self.start_mut(&mut list[GUARDS..GUARDS + length]);
+        let told =
+            stored(|count| unsafe { raw::slash_quotients(kind, k, operand, start, length, count) });
+        (told, list)
+    }
+
     pub fn quotients(&mut self, form: (u64, u64), operand: u64, length: usize) {
         let (kind, k) = form;
-        let archive = archive_quotients(form, operand, length);
+        let archive = self.archive_quotients(form, operand, length);
         let mut list = quotient_list(length);
         let lent = &mut list[GUARDS..GUARDS + length];
         let papers = paper::format(kind, k).and_then(|form| paper::quotients(form, operand, lent));
@@ -209,7 +235,7 @@ impl Harness {
     /// one as long, or a place longer, gets so many quotients and keeps its rest.
     fn lists_about(&mut self, form: (u64, u64), operand: u64, count: usize) {
         for length in count.saturating_sub(1)..=count + 1 {
-            let (archive, list) = archive_quotients(form, operand, length);
+            let (archive, list) = self.archive_quotients(form, operand, length);
             let (expected, changed) = if length < count {
                 ((7, LENT), 0)
             } else {
@@ -254,7 +280,7 @@ impl Harness {
         let mut out = guarded(length);
         let mut papers_out = out.clone();
         let lent_out = lent(&mut out);
-        let returned = archive(lent_out.as_mut_ptr(), lent_out.len());
+        let returned = archive(self.start_mut(lent_out), length);
         let expected = papers(lent(&mut papers_out)).map_or_else(status, |()| 0);
         self.hold(name, input, (returned, out), (expected, papers_out));
     }
@@ -268,7 +294,7 @@ impl Harness {
         length: usize,
     ) {
         let (kind, k) = form;
-        let (l, r) = (left.as_ptr(), right.as_ptr());
+        let (l, r) = (self.start(left), self.start(right));
         self.hold_each(
             "slash_binary_each",
             (form, code, left, right, length),
@@ -282,12 +308,13 @@ impl Harness {
 
     pub fn unary_each(&mut self, form: (u64, u64), code: u64, operand: &[u64], length: usize) {
         let (kind, k) = form;
+        let start = self.start(operand);
         self.hold_each(
             "slash_unary_each",
             (form, code, operand, length),
             length,
             |out, count| unsafe {
-                raw::slash_unary_each(kind, k, code, operand.as_ptr(), operand.len(), out, count)
+                raw::slash_unary_each(kind, k, code, start, operand.len(), out, count)
             },
             |out| paper::unary_each(form, code, operand, out),
         );
@@ -301,7 +328,7 @@ impl Harness {
         length: usize,
     ) {
         let ((kind, k), (to_kind, to_k)) = (form, target);
-        let (words, count) = (operand.as_ptr(), operand.len());
+        let (words, count) = (self.start(operand), operand.len());
         self.hold_each(
             "slash_convert_each",
             (form, target, operand, length),
@@ -315,12 +342,13 @@ impl Harness {
 
     pub fn twist_each(&mut self, form: (u64, u64), operand: &[u64], length: usize) {
         let (kind, k) = form;
+        let start = self.start(operand);
         self.hold_each(
             "slash_twist_each",
             (form, operand, length),
             length,
             |out, count| unsafe {
-                raw::slash_twist_each(kind, k, operand.as_ptr(), operand.len(), out, count)
+                raw::slash_twist_each(kind, k, start, operand.len(), out, count)
             },
             |out| paper::twist_each(form, operand, out),
         );
@@ -328,25 +356,25 @@ impl Harness {
 
     pub fn untwist_each(&mut self, form: (u64, u64), operand: &[u64], length: usize) {
         let (kind, k) = form;
+        let start = self.start(operand);
         self.hold_each(
             "slash_untwist_each",
             (form, operand, length),
             length,
             |out, count| unsafe {
-                raw::slash_untwist_each(kind, k, operand.as_ptr(), operand.len(), out, count)
+                raw::slash_untwist_each(kind, k, start, operand.len(), out, count)
             },
             |out| paper::untwist_each(form, operand, out),
         );
     }
 
     pub fn timings(&mut self, records: &[u8], length: usize) {
+        let start = self.start(records);
         self.hold_each(
             "slash_timings",
             (records, length),
             length,
-            |words, count| unsafe {
-                raw::slash_timings(records.as_ptr(), records.len(), words, count)
-            },
+            |words, count| unsafe { raw::slash_timings(start, records.len(), words, count) },
             |words| timings::timings(records, words),
         );
     }
@@ -365,9 +393,8 @@ impl Harness {
     pub fn night(&mut self, recording: &[u8], whole_rest: bool) {
         let mut lent = std::mem::take(&mut self.listing);
         let start = lent[GUARDS..].as_mut_ptr();
-        let archive = stored(|length| unsafe {
-            raw::slash_night(recording.as_ptr(), recording.len(), start, length)
-        });
+        let (bytes, count) = (self.start(recording), recording.len());
+        let archive = stored(|length| unsafe { raw::slash_night(bytes, count, start, length) });
         let papers = night::listing(recording);
         let expected = told(
             papers
@@ -398,6 +425,19 @@ impl Harness {
         self.listing = lent;
     }
 
+    /// What the archive returns for a recording, and the listing that it stores, nothing where it stops.
+    pub fn listed(&mut self, recording: &[u8]) -> (u64, Vec<u8>) {
+        let start = self.listing[GUARDS..].as_mut_ptr();
+        let (bytes, count) = (self.start(recording), recording.len());
+        let (returned, length) =
+            stored(|length| unsafe { raw::slash_night(bytes, count, start, length) });
+        let length = if returned == 0 { length as usize } else { 0 };
+        let lent = &mut self.listing[GUARDS..GUARDS + length];
+        let listing = lent.to_vec();
+        lent.fill(LENT_BYTE);
+        (returned, listing)
+    }
+
     // Calls on listings.
 
     /// Holds all that a call is lent: the count, the total, and two lists of these lengths.
@@ -405,10 +445,10 @@ impl Harness {
         let (mut numbers, mut words) = (guarded(numbers_length), guarded(words_length));
         let (mut papers_numbers, mut papers_words) = (numbers.clone(), words.clone());
         let mut count = LENT;
-        let (start, length) = (text.as_ptr(), text.len());
+        let (start, length) = (self.start(text), text.len());
         let (n, w) = (
-            lent(&mut numbers).as_mut_ptr(),
-            lent(&mut words).as_mut_ptr(),
+            self.start_mut(lent(&mut numbers)),
+            self.start_mut(lent(&mut words)),
         );
         let (returned, total) = stored(|total| unsafe {
             let count = &mut count;

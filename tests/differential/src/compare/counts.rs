@@ -44,12 +44,18 @@ pub struct Counts {
     tallies: BTreeMap<&'static str, Tally>,
 }
 
-/// The archive's functions: each name in the header that begins like theirs and has a bracket behind it.
+/// The archive's functions: each name in the header that begins like theirs and has brackets and a semicolon behind
+/// it. (Behind the brackets of a function that the header itself defines a body stands.)
 fn declared() -> impl Iterator<Item = &'static str> {
     let ends_name = |character: char| !character.is_ascii_alphanumeric() && character != '_';
-    HEADER
-        .split('(')
-        .filter_map(move |before| before.trim_end().rsplit(ends_name).next())
+    let parts = HEADER.split('(').zip(HEADER.split('(').skip(1));
+    let is_declared = |behind: &str| {
+        let end = behind.split_once(')').map(|(_, end)| end);
+        end.is_some_and(|end| end.trim_start().starts_with(';'))
+    };
+    parts
+        .filter(move |(_, behind)| is_declared(behind))
+        .filter_map(move |(before, _)| before.trim_end().rsplit(ends_name).next())
         .filter(|name| name.starts_with("slash_"))
 }
 

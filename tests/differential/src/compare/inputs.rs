@@ -10,7 +10,7 @@ pub struct Source {
 
 /// Numbers of kinds and k that no format has, and codes that no operation has; some are good ones again
 /// when bits are dropped.
-const STRANGE: [u64; 14] = [
+pub const STRANGE: [u64; 14] = [
     0,
     1,
     2,
@@ -83,10 +83,15 @@ impl Source {
 
     /// A code from 1 to the last, one time in 64 some other number.
     pub fn code(&mut self, last: u64) -> u64 {
+        self.number_in(1, last)
+    }
+
+    /// A number from the first to the last, one time in 64 some other.
+    pub fn number_in(&mut self, first: u64, last: u64) -> u64 {
         if self.below(64) == 0 {
             return self.one_of(&STRANGE);
         }
-        1 + self.below(last)
+        first + self.below(last - first + 1)
     }
 
     // Words.

@@ -3,16 +3,21 @@
 //! The exhaustive part first, always whole, then CASES random calls: a million if no number is
 //! given. A case is one call: what it returns and all that was lent to it must be what the papers
 //! say. A call for the count of quotients has up to three more behind it, whose lists are about as
-//! long. Exit status 1 where anything differs, and where a function that the header declares had no
-//! case in a part; so few random calls that some function got none are too few.
+//! long; a word that is read is written again, a value that is written is read again; a night in
+//! pieces is as many calls as its caller's buffers want, and one case more for all of them. Exit
+//! status 1 where anything differs, and where a function that the header declares had no case in a
+//! part; so few random calls that some function got none are too few.
 
 mod calls;
 mod counts;
+mod empties;
 mod inputs;
 mod listings;
 mod nights;
+mod pieces;
 mod records;
 mod texts;
+mod values;
 
 use calls::Harness;
 use counts::Part;
@@ -43,6 +48,7 @@ fn main() -> ExitCode {
 // The exhaustive part. What it leaves to the source is the text of the long recordings and listings.
 
 fn exhaustive_part(harness: &mut Harness, source: &mut Source) {
+    values::every_value(harness);
     every_pair_of_words(harness);
     every_word(harness);
     most_quotients(harness);
@@ -53,8 +59,10 @@ fn exhaustive_part(harness: &mut Harness, source: &mut Source) {
     whole_vectors_twisted(harness);
     nights::every_breath(harness);
     nights::every_recording(harness, source);
+    pieces::every_piece(harness, source);
     listings::every_listing(harness, source);
     records::every_record(harness);
+    empties::every_empty(harness);
 }
 
 fn numbers_of(form: Format) -> (u64, u64) {
@@ -200,10 +208,11 @@ fn whole_vectors_twisted(harness: &mut Harness) {
 
 // The random part.
 
-/// One call, of any function, of a good or a strange format.
+/// One call, of any function, of a good or a strange format; half of them with null pointers to nothing.
 fn random_call(harness: &mut Harness, source: &mut Source) {
     let form = source.format();
-    match source.below(26) {
+    harness.empty_is_null = source.below(2) == 0;
+    match source.below(30) {
         0..=5 => {
             let (left, right) = source.operands(form);
             harness.binary(form, source.code(4), left, right);
@@ -230,6 +239,8 @@ fn random_call(harness: &mut Harness, source: &mut Source) {
         21 | 22 => random_twists(harness, source),
         23 => records::random_records(harness, source),
         24 => nights::random_breath(harness, source),
+        25..=27 => values::random_value(harness, source),
+        28 => pieces::random_piece(harness, source),
         _ => nights::random_recording(harness, source),
     }
 }

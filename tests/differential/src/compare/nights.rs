@@ -5,10 +5,10 @@ use crate::inputs::Source;
 use crate::texts;
 
 /// The paper's recording.
-const PAPERS: &str = "rate\t1024\n0\t277\t642\n4294967290\t10\t34\n100\t100\t100\n";
+pub const PAPERS: &str = "rate\t1024\n0\t277\t642\n4294967290\t10\t34\n100\t100\t100\n";
 
 /// The largest rate, and the seconds of the longest breath that isn't void.
-const MOST_TICKS: u64 = 4096;
+pub const MOST_TICKS: u64 = 4096;
 const MOST_SECONDS: u64 = 120;
 
 /// The largest part of a stored word.
@@ -103,7 +103,7 @@ fn rate_line(rate: u64) -> String {
 }
 
 /// The ticks of the longest breath that isn't void, of a rate that is none some number.
-fn longest(rate: u64) -> u32 {
+pub fn longest(rate: u64) -> u32 {
     rate.wrapping_mul(MOST_SECONDS) as u32
 }
 

@@ -1,2 +1,0 @@
--- What a call from C answers.
-pub mod Status

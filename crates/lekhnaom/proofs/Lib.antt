@@ -1,0 +1,4 @@
+-- The laws that the functions' proofs cite.
+pub mod StatusLaws
+pub mod ValueLaws
+pub mod PieceLaws

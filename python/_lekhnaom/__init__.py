@@ -1,0 +1,1 @@
+"""The code of the module lekhnaom: import that."""
