@@ -1,5 +1,5 @@
 /* Slash arithmetic for breath ratios: the proved archive's functions. Link with -llekhnaom (liblekhnaom.a, which
- * `rt staticlib lekhnaom` builds).
+ * `rt lib` builds in crates/lekhnaom).
  *
  * A word travels in 64 bits. Its format is a kind and a number k:
  *

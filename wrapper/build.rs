@@ -1,4 +1,4 @@
-//! Links the archive that `rt staticlib lekhnaom` writes (SLASH_ARCHIVE names another folder that has it), and
+//! Links the archive that `rt lib` writes in `crates/lekhnaom` (SLASH_ARCHIVE names another folder that has it), and
 //! takes from `include/slash.h` what stands there once: the version, the numbers, the texts of the stops.
 
 use std::path::{Path, PathBuf};
@@ -6,7 +6,7 @@ use std::{env, fs};
 
 fn main() {
     let root = folder_named("CARGO_MANIFEST_DIR").expect("cargo sets it");
-    let archive = folder_named("SLASH_ARCHIVE").unwrap_or(root.join("../target/staticlib"));
+    let archive = folder_named("SLASH_ARCHIVE").unwrap_or(root.join("../crates/lekhnaom/out"));
     link(&archive);
     let built = folder_named("OUT_DIR").expect("cargo sets it");
     translate(&root.join("../include/slash.h"), &built.join("header.rs"));

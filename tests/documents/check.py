@@ -58,8 +58,9 @@ STRUCTS = {
 # The stops that a recording can have: `night` says each in words.
 SAID_BY_NIGHT = ("8", "9", "10", "11", "19")
 
-# Measured figures, written by a program; and the notes on changes, which name what was there before.
-LEFT_OUT = ("bench/RESULTS.md", "docs/changes/")
+# Measured figures, written by a program; and what names things that were there before: the notes on changes, and the
+# pages on the ports to newer toolchains.
+LEFT_OUT = ("bench/RESULTS.md", "docs/changes/", "docs/PORT.md", "docs/DESIGN-PASS.md", "PORTING-LEFT.md")
 
 # Where CLAIMS.md says that there is no array besides the caller's list (CR 6). Brackets there are those of
 # an index, of an attribute or of a slice that is lent, `[u32]`; any others are an array's.
@@ -197,7 +198,7 @@ def has_array(line):
         before, behind = code[: bracket.start()].rstrip(), code[bracket.end() :]
         index = re.search(r"[\w)\]]$", before) and not re.search(r"\b(?:mut|return|in)$", before)
         slice_type = re.match(r"(?:u8|u32|u64)\]", behind)
-        if not (index or before.endswith("#") or slice_type):
+        if not (index or before.endswith(("#", "#!")) or slice_type):
             return True
     return False
 

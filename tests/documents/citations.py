@@ -1,7 +1,7 @@
 """What a cell of the tables cites. The forms, which CLAIMS.md and WRONG_PROGRAMS.md keep to:
 
-    slash Formats `known`, `makeFormat`; convergents Rounding `held`   definitions
-    slash `read-written`, RoundTrip `nan-says`                         laws (or without a module)
+    slash Formats `known`, `make_format`; convergents Rounding `held`  definitions
+    slash `read_written`, RoundTrip `nan_says`                         laws (or without a module)
     slash `write_drops_the_mark`                                       must-fail edits
     `Format::make`, `slash::check`, equations; `round`, clause `best`  functions, what they promise
     in `signed.rt` `floor`                                             private functions of a file

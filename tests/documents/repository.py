@@ -8,7 +8,7 @@ from dataclasses import dataclass, field
 from pathlib import Path
 
 # Directories that hold nothing of ours.
-SKIPPED = {".git", "target", "__pycache__"}
+SKIPPED = {".git", "target", "out", "__pycache__"}
 
 TYPE = re.compile(r"^(?:pub |pub\(crate\) )?(?:struct|enum) (\w+)", re.M)
 CONSTANT = re.compile(r"^\s*(?:pub |pub\(crate\) )?const (\w+):", re.M)
@@ -94,7 +94,9 @@ class Repository:
     def read_code(self, crate):
         """A crate's functions, types and constants."""
         lib = self.text(f"crates/{crate}/src/lib.rt")
-        exported = set(re.findall(r"^pub use \w+::(\w+);", lib, re.M))
+        exported = set()
+        for one, several in re.findall(r"^pub use \w+::(?:(\w+)|\{([^}]*)\});", lib, re.M):
+            exported.update(re.findall(r"\w+", one or several))
         exported.update(re.findall(r"^pub (?:struct|enum) (\w+)", lib, re.M))
         for path in sorted((self.root / "crates" / crate / "src").glob("*.rt")):
             text = path.read_text(encoding="utf-8")
@@ -168,7 +170,7 @@ def read_functions(crate, file, text):
     """The functions of a source file, with their clauses."""
     found, owner = [], ""
     for number, line in enumerate(text.split("\n"), 1):
-        block = re.match(r"impl (\w+)", line)
+        block = re.match(r"impl (?:\w+ for )?(\w+)", line)
         head = FUNCTION.match(line)
         clause = re.match(r" *ensures (\w+ )?\{", line)
         if block or line == "}":

@@ -8,7 +8,7 @@ from collections import Counter
 THEOREM = "docs/THEOREM.md"
 INTERNAL = "Steps"
 GROUP = "\n-- For the code and the proofs alone.\npub mod Steps\n"
-USE = re.compile(r"^(?:ghost )?use Rattle·(\w+?)(?:·specs)?\.specs\.(\w+)\.\{([^}]*)\}", re.M)
+USE = re.compile(r"^ *(?:ghost )?use Rattle\.(\w+)\.specs\.(\w+)\.\{([^}]*)\}", re.M)
 
 
 class Trusted:

@@ -19,7 +19,7 @@ from trusted import INTERNAL, THEOREM
 ROOT = Path(__file__).resolve().parents[2]
 
 # Large, and nothing in them is cited.
-LEFT_OUT = shutil.ignore_patterns(".git", "target", "__pycache__", "stdin", "stdout")
+LEFT_OUT = shutil.ignore_patterns(".git", "target", "out", "__pycache__", "stdin", "stdout")
 
 # A name that nothing has.
 NOTHING = "nothing_has_this_name"
@@ -190,6 +190,16 @@ def function_not_claimed(scratch, good):
     return NOTHING
 
 
+def function_of_a_group_not_claimed(scratch, good):
+    """A public function more, which a `pub use` exports beside others."""
+    lib = next(p for p in sorted(good.repo.files) if p.endswith("/src/lib.rt") and "::{" in good.repo.text(p))
+    line, match = line_with(good, lib, r"^pub use (\w+)::\{")
+    scratch.replace(lib, line, match[0], f"{match[0]}{NOTHING}, ")
+    source = lib.replace("lib.rt", f"{match[1]}.rt")
+    scratch.write(source, good.repo.text(source) + f"\npub fn {NOTHING}() -> u64 {{\n    0\n}}\n")
+    return NOTHING
+
+
 def crate_not_described(scratch, good):
     """A crate more, which no document describes."""
     scratch.write(f"crates/{NOTHING}/src/lib.rt", "")
@@ -293,7 +303,7 @@ def definition_that_uses_a_step(scratch, good):
     """A definition to trust that rests on one for the proofs alone."""
     path = "crates/slash/specs/Numbers.antt"
     name = min(good.repo.definitions["slash"][INTERNAL])
-    use = f"use Rattle·slash·specs.specs.{INTERNAL}.{{{name}}}\n"
+    use = f"use Rattle.slash.specs.{INTERNAL}.{{{name}}}\n"
     scratch.write(path, use + good.repo.text(path))
     return f"`{name}` of slash {INTERNAL}"
 
@@ -301,11 +311,11 @@ def definition_that_uses_a_step(scratch, good):
 def contract_that_uses_a_step(scratch, good):
     """A public contract in the terms of the proofs."""
     function = next(f for f in good.repo.public_functions() if f.crate == "unary" and f.clauses)
-    use = f"ghost use Rattle·slash.specs.{INTERNAL}.{{{NOTHING}}};\n"
+    use = f"ghost use Rattle.slash.specs.{INTERNAL}.{{{NOTHING}}};\n"
     text = good.repo.text(function.path)
     lines = text.split("\n")
     at = next(i for i in range(function.line, len(lines)) if "ensures" in lines[i])
-    lines[at] = lines[at].replace("⌜", f"⌜ {NOTHING}", 1)
+    lines[at] = lines[at].replace("{", f"{{ {NOTHING}", 1)
     scratch.write(function.path, use + "\n".join(lines))
     return f"a public contract uses `{NOTHING}`"
 
@@ -342,6 +352,7 @@ BREAKS = {
     "a public function without its row": function_without_row,
     "a public function with one wrong program": function_with_one_wrong_program,
     "a public function that no claim has": function_not_claimed,
+    "one of several in a `pub use` that no claim has": function_of_a_group_not_claimed,
     "a crate that no document describes": crate_not_described,
     "a decision misspelt": misspelt("decision"),
     "a decision by its number": decision_by_number,

@@ -16,8 +16,6 @@ ALLOWED = {
     "rt": "the toolchain's command",
     "cat": "the floor of the speed of `night`",
     "io": "a crate of the toolchain",
-    "libc": "a crate of the toolchain",
-    "os": "a crate of the toolchain",
     "requires": "a word of the language",
     "use": "a word of the language",
     "pub": "a word of the language",
@@ -107,7 +105,7 @@ class Words:
             return self.is_known(call[1])
         if "::" in name:
             return self.is_qualified(name)
-        return name in self.known or not re.fullmatch(r"[A-Za-z_][\w′-]*", name)
+        return name in self.known or not re.fullmatch(r"[A-Za-z_][\w'′-]*", name)
 
     def is_qualified(self, name):
         """Whether `a::b` is a function of a crate, a type or a module, or a case of a type."""
@@ -133,6 +131,9 @@ class Words:
         name, files = name.rstrip("/"), self.repo.files
         if name.startswith("target/"):
             return True  # what a command builds
+        built = re.match(r"crates/(\w+)/out/", name)
+        if built:
+            return built[1] in self.repo.crates  # what rt builds of a crate
         if "*" in name:
             return any(fnmatch.fnmatch(file, name) for file in files)
         return name in files or any(file.endswith("/" + name) for file in files)

@@ -7,17 +7,14 @@ use Prim.Native.Nat.{ℕ}
 use lib.ListN.{length}
 use borrow.Author.Tests.{eq-eqb, ne_eqb}
 use Rattle.slash.specs.Answers.{stop, done, completion_outcome}
-use Rattle.slash.specs.Steps.{or_zero}
 use Rattle.slash.specs.declared.answer.Stop.{Stop}
 use Rattle.slash.specs.Formats.{known, check_format}
-use Rattle.slash.specs.Reading.{check_word}
 use Rattle.slash.specs.declared.format.Format.{Format}
 use Rattle.vectors.specs.Each.{each, vector_after, stop_only, EachPlace}
 use Rattle.vectors.specs.Places.{Operands, places, same_length}
 use Rattle.vectors.specs.Checks.{check_operands, checked_pairs}
 use Rattle.slash.specs.declared.answer.Completion.{Completion}
-use Rattle.slash.specs.declared.answer.Completion.TheVariants as Completion
-use Rattle.slash.proofs.AnswerLaws.{then_stop, then_done}
+use Rattle.slash.proofs.AnswerLaws.{then_stop}
 use Rattle.slash.proofs.FormatLaws.{format_good}
 use Rattle.vectors.proofs.EachLaws.{each_stopped, each_done}
 use Rattle.vectors.proofs.CheckLaws.{pairs_all}

@@ -8,7 +8,7 @@ use mathlib.Core.Bool.{Bool, true, false, not, ◌||◌, true≢false, false≢t
 use Prim.Native.Nat.{◌≤◌}
 use native.Mathlib.Omega.{arith}
 use lib.Dec.{eqb}
-use Rattle.convergents.specs.Choice.{if◌then◌else◌}
+use Rattle.std.specs.Prelude.{if◌then◌else◌}
 use Rattle.slash.specs.Numbers.{is_nan, parts_of}
 use Rattle.slash.proofs.AnswerLaws.{some_not, if_case}
 use Rattle.slash.specs.declared.number.Parts.{Parts}

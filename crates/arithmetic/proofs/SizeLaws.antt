@@ -7,7 +7,7 @@ use native.Mathlib.Omega.{arith}
 use native.Mathlib.Decide.{ℕ_discrete}
 use lib.Dec.{leb, eqb}
 use borrow.Author.Tests.{leb-true}
-use Rattle.convergents.specs.Choice.{if◌then◌else◌}
+use Rattle.std.specs.Prelude.{if◌then◌else◌}
 use Rattle.slash.specs.Best.{ExactSize, ◌over◌, none, size_of}
 use Rattle.slash.specs.Numbers.{is_nan, parts_of}
 use Rattle.slash.proofs.AnswerLaws.{and_parts}
@@ -55,7 +55,7 @@ operand_size code (Finite p) (Finite q) = finite_size code p.negative p.numerato
 operand_size code (Finite p) (Infinite t) = if eqb code 4 then 0 over 1 else none
 operand_size code (Infinite s) y = none
 
-quotient_size : (s b z : Bool) (n d : ℕ) → size_of (if b then (if z then NotANumber else Infinity s) else Fraction (record { negative = s; numerator = n; denominator = d })) ≡ (if b then none else n over d)
+quotient_size : (s b z : Bool) (n d : ℕ) → size_of (if b then (if z then NotANumber else Infinity s) else Fraction (record { negative = s; numerator = n; denominator = d })) ≡ (if b then none else (n over d))
 quotient_size s true z n d = no_size z s
 quotient_size s false z n d = refl
 

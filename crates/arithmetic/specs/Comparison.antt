@@ -1,6 +1,6 @@
 -- Comparison: below, equal, above, or unordered with not-a-number.
 use Rattle.std.specs.Prelude.{ℕ, ◌*◌, Bool, not, ◌&&◌, ◌||◌, ltb, eqb}
-use Rattle.convergents.specs.Choice.{if◌then◌else◌}
+use Rattle.std.specs.Prelude.{if◌then◌else◌}
 use Rattle.slash.specs.Answers.{Outcome, stop, done, ◌then◌}
 use Rattle.slash.specs.Reading.{read_word}
 use Rattle.slash.specs.Numbers.{is_nan}
@@ -8,7 +8,6 @@ use Rattle.slash.specs.declared.format.Format.{Format}
 use Rattle.slash.specs.declared.number.Value.{Value}
 use Rattle.arithmetic.specs.Operands.{operand_of, differ}
 use Rattle.arithmetic.specs.declared.comparison.Comparison.{Comparison}
-use Rattle.arithmetic.specs.declared.comparison.Comparison.TheVariants as Comparison
 use Rattle.arithmetic.specs.declared.comparison.Order.{Order}
 use Rattle.arithmetic.specs.declared.comparison.Order.TheVariants.{Below, Equal, Above, Unordered}
 use Rattle.arithmetic.specs.declared.operand.Operand.{Operand}

@@ -1,6 +1,6 @@
 -- The four binary operations: the exact result, rounded once.
 use Rattle.std.specs.Prelude.{ℕ, ◌+◌, ◌*◌, Bool, true, false, not, ◌&&◌, ◌||◌, leb, eqb}
-use Rattle.convergents.specs.Choice.{if◌then◌else◌}
+use Rattle.std.specs.Prelude.{if◌then◌else◌}
 use Rattle.convergents.specs.Pairs.{apart}
 use Rattle.slash.specs.Answers.{Outcome, stop, done, ◌then◌}
 use Rattle.slash.specs.Formats.{when_known}
@@ -101,9 +101,9 @@ combined f code x y = word_for f (x.approximate || y.approximate) (exact_value c
 unfoldable pub check_binary : Format → (code left right : ℕ) → Outcome (Unit {0})
 check_binary f code left right =
     when_known f (
-    if not (is_binary code) then stop 2 0 else
+    if not (is_binary code) then stop 2 0 else (
     check_word f left then λ _.
-    check_word f right)
+    check_word f right))
 
 unfoldable pub binary_word : Format → (code left right : ℕ) → Outcome ℕ
 binary_word f code left right =

@@ -1,7 +1,7 @@
 -- Demand 3's N over D, as 01 has them under Rounding: the absolute value of the exact result of a binary operation, where that is finite.
 use Rattle.std.specs.Prelude.{ℕ, ◌+◌, ◌*◌, Bool, true, false, not, ◌&&◌, eqb}
 use Rattle.std.specs.Bool.{beq}
-use Rattle.convergents.specs.Choice.{if◌then◌else◌}
+use Rattle.std.specs.Prelude.{if◌then◌else◌}
 use Rattle.convergents.specs.Pairs.{apart}
 use Rattle.slash.specs.Best.{ExactSize, ◌over◌, none}
 use Rattle.slash.specs.Numbers.{parts_of}
@@ -32,7 +32,7 @@ finite_size code s a b t c d =
     if eqb code 1 then size_of_sum s t (a * d) (b * c) over b * d else
     if eqb code 2 then size_of_sum s (not t) (a * d) (b * c) over b * d else
     if eqb code 3 then a * c over b * d else
-    if eqb code 4 then (if eqb c 0 then none else a * d over b * c) else
+    if eqb code 4 then (if eqb c 0 then none else (a * d over b * c)) else
     none
 
 -- Of two values: finite operands are read by their fields, zero as 0/1 (`parts_of`); 0 over 1 where a finite value is divided by infinity; no

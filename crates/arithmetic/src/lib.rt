@@ -1,5 +1,8 @@
 // Arithmetic on slash words: the four binary operations, on two words and at each place of two
 // vectors, and comparison. The exact result is worked first and then rounded once.
+
+#![tactic(auto)]
+
 mod comparison;
 mod each;
 mod operand;

@@ -15,7 +15,6 @@ use Rattle.breaths.specs.Breaths.{span, breath_of, is_void, breath_ratio, breath
 use Rattle.breaths.specs.declared.breath.Breath.{Breath}
 use Rattle.breaths.specs.declared.rate.Rate.{Rate}
 use Rattle.breaths.specs.declared.rate.RateMade.{RateMade}
-use Rattle.breaths.specs.declared.rate.RateMade.TheVariants as RateMade
 use Rattle.breaths.specs.declared.ratio.Ratio.{Ratio}
 use Rattle.breaths.proofs.RatioLaws.{Promised, good_breath, breath_proportion, ratio_of_word}
 

@@ -7,7 +7,7 @@
 use Rattle.std.proofs.Common.{◌≡◌, ℕ, zero, suc, ◌+◌, ◌*◌, ◌%◌, ◌^◌, ◌<◌, ◌≤◌, Bool, true, false, not, ◌&&◌, ◌||◌, eqb, ltb, leb, List, [], ◌∷◌, sym, refl, ap, ◌∙◌, subst, ⊎_elim, true≢false, mul-le-mul_right, mod-lt, mul-le-mul_left, arith, ltb-false, eq-eqb, ne_eqb, eqb-true, leb-true}
 use native.Mathlib.Decide.{dec_le, ℕ_discrete}
 use borrow.Author.Tests.{eqb-false, not-true}
-use Rattle.convergents.specs.Choice.{if◌then◌else◌}
+use Rattle.std.specs.Prelude.{if◌then◌else◌}
 use Rattle.convergents.specs.Pairs.{Pair, pair, differs}
 use Rattle.convergents.specs.Rounding.{Limit, held, round}
 use Rattle.convergents.specs.Best.{Best}
@@ -21,7 +21,6 @@ use Rattle.slash.specs.Writing.{fixed_word, pair_word, word_for, is_over_zero, w
 use Rattle.slash.specs.Numbers.{is_nan, pair_of}
 use Rattle.slash.specs.Best.{BestForRatio, BestForValue}
 use Rattle.slash.specs.declared.answer.Written.{Written}
-use Rattle.slash.specs.declared.answer.Written.TheVariants as Written
 use Rattle.slash.specs.declared.answer.Stop.{Stop}
 use Rattle.slash.specs.declared.format.Format.{Format}
 use Rattle.slash.specs.declared.number.Value.{Value}

@@ -1,6 +1,6 @@
 -- A breath: durations, what is void at a rate, its ratio.
 use Rattle.std.specs.Prelude.{ℕ, ◌+◌, ◌-◌, ◌*◌, ◌%◌, ◌^◌, Bool, ◌||◌, List, [], ◌∷◌, ◌==◌, nat_lt}
-use Rattle.convergents.specs.Choice.{if◌then◌else◌}
+use Rattle.std.specs.Prelude.{if◌then◌else◌}
 use Rattle.slash.specs.Answers.{Outcome, done, ◌then◌}
 use Rattle.breaths.specs.Rates.{make_rate}
 use Rattle.breaths.specs.Ratios.{ratio_word, BestRatio}

@@ -1,10 +1,9 @@
 -- A recording's tick rate.
 use Rattle.std.specs.Prelude.{ℕ, Bool, ◌&&◌, nat_le}
-use Rattle.convergents.specs.Choice.{if◌then◌else◌}
+use Rattle.std.specs.Prelude.{if◌then◌else◌}
 use Rattle.slash.specs.Answers.{Outcome, stop, done}
 use Rattle.breaths.specs.declared.rate.Rate.{Rate}
 use Rattle.breaths.specs.declared.rate.RateMade.{RateMade}
-use Rattle.breaths.specs.declared.rate.RateMade.TheVariants as RateMade
 
 -- A rate is a whole number from 1 to 4096: so many ticks a second.
 unfoldable pub is_rate : ℕ → Bool

@@ -1,6 +1,6 @@
 -- A ratio as a slash word, of a breath or of a night.
 use Rattle.std.specs.Prelude.{ℕ, false, ◌==◌}
-use Rattle.convergents.specs.Choice.{if◌then◌else◌}
+use Rattle.std.specs.Prelude.{if◌then◌else◌}
 use Rattle.convergents.specs.Pairs.{Pair}
 use Rattle.slash.specs.Reading.{number_of}
 use Rattle.slash.specs.Writing.{word_for, exact_ratio}

@@ -1,6 +1,6 @@
 -- A night: the sums of its breaths, void ones left out, and its ratio.
 use Rattle.std.specs.Prelude.{ℕ, ◌+◌, ◌^◌, Bool, true, false, ◌&&◌, List, [], ◌∷◌, ◌==◌, nat_lt}
-use Rattle.convergents.specs.Choice.{if◌then◌else◌}
+use Rattle.std.specs.Prelude.{if◌then◌else◌}
 use Rattle.slash.specs.Answers.{Outcome, done, unnumbered}
 use Rattle.breaths.specs.Ratios.{ratio_word}
 use Rattle.breaths.specs.Breaths.{is_void}

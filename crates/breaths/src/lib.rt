@@ -1,4 +1,7 @@
 // A recording's rate, a breath's durations, a night's sums of them, and their ratios as slash words.
+
+#![tactic(auto)]
+
 mod breath;
 mod proportion;
 mod rate;

@@ -1,6 +1,9 @@
 // Runs requests from standard input, one a line, and writes an answer for each: a letter, then
 // decimal numbers parted by single spaces. tests/second writes the requests and what the answers
 // must be.
+
+#![tactic(auto)]
+
 mod operations;
 mod places;
 mod records;
@@ -10,7 +13,8 @@ mod single;
 mod ticks;
 mod words;
 
-use libc::STDIN_FILENO;
+// The number of standard input.
+const STDIN_FILENO: i32 = 0;
 
 // The line read so far: its letter, the first of the numbers that ended, how many ended, and the
 // number that has begun. All numbers of a line are in a lent list besides.

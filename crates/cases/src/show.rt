@@ -1,6 +1,8 @@
 // Writes the pieces of an answer to standard output.
-use libc::STDOUT_FILENO;
 use slash::{Completion, Stop};
+
+// The number of standard output.
+const STDOUT_FILENO: i32 = 1;
 
 pub(crate) fn text(bytes: &[u8]) {
     io::write_all(STDOUT_FILENO, bytes);

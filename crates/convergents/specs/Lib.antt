@@ -1,5 +1,4 @@
 -- What rounding a ratio means.
-pub mod Choice
 pub mod Pairs
 pub mod Convergents
 pub mod Rounding

@@ -9,7 +9,6 @@ use Rattle.slash.specs.Answers.{stop, done, completion_outcome}
 use Rattle.slash.specs.Steps.{or_zero}
 use Rattle.slash.specs.declared.answer.Stop.{Stop}
 use Rattle.slash.specs.declared.answer.Completion.{Completion}
-use Rattle.slash.specs.declared.answer.Completion.TheVariants as Completion
 use Rattle.slash.specs.Formats.{known, check_format}
 use Rattle.slash.specs.Reading.{check_word}
 use Rattle.slash.specs.declared.format.Format.{Format}

@@ -1,5 +1,8 @@
 // Conversion of words between formats, of one word and at each place of a vector. The number that a
 // word says is rounded once.
+
+#![tactic(auto)]
+
 mod conversion;
 mod each;
 

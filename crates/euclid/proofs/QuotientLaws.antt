@@ -14,7 +14,7 @@ use lib.ListN.{length, take, drop, set, length-set, length-append, take-append-d
 use lib.Seq.{length-take-le, take-suc-set, drop-set-lt, drop-drop}
 use lib.Dec.{leb, ltb}
 use borrow.Author.Tests.{le-leb, lt-leb, leb-true, leb-false, ltb-true, ltb-false}
-use Rattle.convergents.specs.Choice.{if◌then◌else◌}
+use Rattle.std.specs.Prelude.{if◌then◌else◌}
 use Rattle.convergents.specs.Convergents.{euclid, quotients}
 use Rattle.convergents.specs.Pairs.{Pair, pair}
 use Rattle.slash.specs.Answers.{Outcome, stop, done, ◌then◌}
@@ -28,7 +28,6 @@ use Rattle.slash.proofs.ReadingLaws.{checked_known, checked_number, checked_read
 use Rattle.slash.proofs.CanonicalLaws.{held_most, read_known, read_held}
 use Rattle.slash.specs.declared.format.Format.{Format}
 use Rattle.slash.specs.declared.reading.Checked.{Checked}
-use Rattle.slash.specs.declared.reading.Checked.TheVariants as Checked
 use Rattle.slash.specs.declared.reading.GoodWord.{GoodWord}
 use Rattle.slash.specs.declared.number.Number.{Number}
 use Rattle.slash.specs.declared.number.Parts.{Parts}

@@ -1,6 +1,6 @@
 -- The partial quotients of a word's finite absolute value: their count alone, and they themselves in a lent list.
 use Rattle.std.specs.Prelude.{ℕ, List, [], ◌++◌, leb, length, drop}
-use Rattle.convergents.specs.Choice.{if◌then◌else◌}
+use Rattle.std.specs.Prelude.{if◌then◌else◌}
 use Rattle.convergents.specs.Convergents.{quotients}
 use Rattle.slash.specs.Answers.{Outcome, stop, done, ◌then◌}
 use Rattle.slash.specs.Reading.{read_word}

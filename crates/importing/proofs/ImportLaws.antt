@@ -14,7 +14,6 @@ use Rattle.slash.specs.Answers.{stop, done, completion_outcome}
 use Rattle.slash.specs.Steps.{or_zero}
 use Rattle.slash.specs.declared.answer.Stop.{Stop}
 use Rattle.slash.specs.declared.answer.Completion.{Completion}
-use Rattle.slash.specs.declared.answer.Completion.TheVariants as Completion
 use Rattle.vectors.specs.Each.{each, vector_after, stop_only, EachPlace}
 use Rattle.vectors.specs.Checks.{checks}
 use Rattle.vectors.proofs.EachLaws.{each_stopped, each_done}

@@ -30,9 +30,7 @@ use Rattle.importing.specs.Records.{Record, Content, timings, ratio, lowest_firs
 use Rattle.importing.specs.Steps.{bits_of, imported_content, record_outcome, InOrder, KeepsRules, rounded_ratio, check_record}
 use Rattle.importing.specs.declared.record.Timings.{Timings}
 use Rattle.importing.specs.declared.record.Imported.{Imported}
-use Rattle.importing.specs.declared.record.Imported.TheVariants as Imported
 use Rattle.importing.specs.declared.record.RecordReading.{RecordReading}
-use Rattle.importing.specs.declared.record.RecordReading.TheVariants as RecordReading
 use Rattle.importing.proofs.ValueLaws.{some_value, ratio_exact, number_exact}
 use Rattle.importing.proofs.FloatLaws.{bits_back, some_denominator}
 

@@ -1,6 +1,6 @@
 -- Records imported: the word of each into a lent vector.
 use Rattle.std.specs.Prelude.{ℕ, zero, suc, ◌/◌, ◌%◌, not, List, [], ◌∷◌, eqb, length, drop}
-use Rattle.convergents.specs.Choice.{if◌then◌else◌}
+use Rattle.std.specs.Prelude.{if◌then◌else◌}
 use Rattle.slash.specs.Answers.{Outcome, stop}
 use Rattle.vectors.specs.Each.{each}
 use Rattle.importing.specs.Records.{Record, record_of, record_word}

@@ -1,6 +1,6 @@
 -- A record of the scoring package: 12 bytes, a 32-bit kind, then two binary32 numbers, all lowest byte first.
 use Rattle.std.specs.Prelude.{ℕ, ◌+◌, ◌*◌, ◌&&◌, List, [], ◌∷◌, eqb, take, drop}
-use Rattle.convergents.specs.Choice.{if◌then◌else◌}
+use Rattle.std.specs.Prelude.{if◌then◌else◌}
 use Rattle.convergents.specs.Pairs.{Pair}
 use Rattle.slash.specs.Answers.{Outcome, stop, done, ◌then◌, WhenDone}
 use Rattle.slash.specs.Best.{BestForRatio}

@@ -9,11 +9,8 @@ use Rattle.breaths.specs.Ratios.{parts_ratio}
 use Rattle.breaths.specs.declared.ratio.Ratio.{Ratio}
 use Rattle.importing.specs.Floats.{least, one, beyond}
 use Rattle.importing.specs.Records.{Record, Content, timings, ratio, content_of}
-use Rattle.importing.specs.declared.record.Timings.{Timings}
 use Rattle.importing.specs.declared.record.Imported.{Imported}
-use Rattle.importing.specs.declared.record.Imported.TheVariants as Imported
 use Rattle.importing.specs.declared.record.RecordReading.{RecordReading}
-use Rattle.importing.specs.declared.record.RecordReading.TheVariants as RecordReading
 
 abbrev pub bits_of : Float → ℕ
 bits_of x = to_bits binary32 x

@@ -1,4 +1,7 @@
 // Records of the scoring package, imported as slash words.
+
+#![tactic(auto)]
+
 mod float;
 mod import;
 mod record;

@@ -7,7 +7,6 @@ use Prim.Native.Nat.{ℕ, zero, suc, ◌+◌, ◌*◌, ◌/◌, ◌%◌, ◌^◌
 use native.Mathlib.Omega.{arith}
 use native.Mathlib.Nat.{mod-lt, pow-suc}
 use native.Mathlib.Decide.{dec_lt}
-use lib.Dec.{leb}
 use lib.ListN.{length}
 use lib.Pow.{pow_mono, pow-add}
 use borrow.Author.Tests.{ne_eqb, le-leb, lt-leb, leb-false}
@@ -26,7 +25,6 @@ use Rattle.text.proofs.ScanLaws.{before_step, before_nil}
 use Rattle.inspect.specs.Columns.{digit_count}
 use Rattle.inspect.specs.Says.{digit_value, digits_say, line_says}
 use Rattle.inspect.specs.declared.said.Said.{Said}
-use Rattle.inspect.specs.declared.said.Said.TheVariants as Said
 use Rattle.inspect.proofs.StoreLaws.{digit_low, digit_high}
 use Rattle.inspect.proofs.SaidLaws.{digits_nil, digits_more, digits_other, word_is, line_word}
 

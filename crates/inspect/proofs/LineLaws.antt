@@ -18,7 +18,6 @@ use Rattle.text.proofs.NumberLaws.{stored_length}
 use Rattle.inspect.specs.Words.{inspected_text}
 use Rattle.inspect.specs.Lines.{said_text, format_behind}
 use Rattle.inspect.specs.declared.said.Said.{Said}
-use Rattle.inspect.specs.declared.said.Said.TheVariants as Said
 use Rattle.inspect.proofs.WordLaws.{inspected_length}
 
 module _ (f : Format) (line : ℕ) where

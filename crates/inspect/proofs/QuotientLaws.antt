@@ -14,7 +14,6 @@ use Rattle.slash.specs.Answers.{Outcome, stop, done, ◌then◌, answer_outcome}
 use Rattle.slash.specs.Numbers.{pair_of}
 use Rattle.slash.specs.Reading.{read_word}
 use Rattle.slash.specs.declared.answer.Answer.{Answer}
-use Rattle.slash.specs.declared.answer.Answer.TheVariants as Answer
 use Rattle.slash.specs.declared.answer.Stop.{Stop}
 use Rattle.slash.specs.declared.format.Format.{Format}
 use Rattle.slash.specs.declared.number.Number.{Number}

@@ -1,7 +1,7 @@
 -- What a line of input says. Assumes nothing.
 -- `hexing_end`: what the loop over a word's digits comes to. `kind_one`, `kind_two`, `kind_none`: a k by how many bytes it has.
 use mathlib.Core.Path.{◌≡◌, refl, sym, ap, ◌∙◌}
-use mathlib.Core.Bool.{Bool, true, false, not, ◌&&◌, and-false}
+use mathlib.Core.Bool.{Bool, true, false, ◌&&◌, and-false}
 use mathlib.Core.List.{List, [], ◌∷◌}
 use Prim.Native.Nat.{ℕ, ◌+◌, ◌-◌, ◌*◌, ◌^◌, ◌≤◌, ◌<◌}
 use native.Mathlib.Omega.{arith}
@@ -17,7 +17,6 @@ use Rattle.text.proofs.ScanLaws.{drop_past}
 use Rattle.text.proofs.PartLaws.{behind, tail_is, drop_here}
 use Rattle.inspect.specs.Says.{digit_value, digits_say, word_says, kind_says, fixed_name, floating_name, format_says, line_says}
 use Rattle.inspect.specs.declared.said.Said.{Said}
-use Rattle.inspect.specs.declared.said.Said.TheVariants as Said
 
 -- ---- a digit
 

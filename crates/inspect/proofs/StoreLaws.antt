@@ -1,41 +1,34 @@
 -- Text and numbers stored. Assumes nothing.
 -- `text_stored`: what copying a text comes to. `digits_decimal`: the digits that `io::decimal` makes are the number in decimal. `last_hex`: digits in base 16 are the hexadecimal ones.
 use mathlib.Core.Path.{◌≡◌, refl, sym, ap, ◌∙◌, subst}
-use mathlib.Core.List.{List, [], ◌∷◌, ◌++◌, append-nil, append_assoc}
+use mathlib.Core.List.{List, [], ◌∷◌, ◌++◌, append_assoc}
 use Prim.Native.Nat.{ℕ, zero, suc, ◌+◌, ◌-◌, ◌/◌, ◌%◌, ◌^◌, ◌≤◌, ◌<◌}
 use native.Mathlib.Omega.{arith}
 use native.Mathlib.Nat.{mod-lt, one-le-pow, pow-suc}
 use lib.ListN.{length, take, drop, length-append}
-use lib.Seq.{take_at, take_all, drop-drop, sets-eq}
+use lib.Seq.{take_at, drop-drop, sets-eq}
 use borrow.Author.Tests.{lt-ltb, le-ltb}
-use Rattle.io.specs.Digits.{hex_digit_ascii, last_digits, IsDigitCount}
+use Rattle.io.specs.Digits.{hex_digit_ascii, last_digits as digits, IsDigitCount}
 use Rattle.text.specs.Lines.{refused_line}
 use Rattle.text.specs.Numbers.{decimal, hex_digit, hexadecimal}
 use Rattle.text.specs.Steps.{Room}
 use Rattle.text.specs.Stores.{put, Stored, at_start}
 use Rattle.text.proofs.NumberLaws.{decimal_small, decimal_more}
-use Rattle.text.proofs.PartLaws.{tail_is}
-use Rattle.text.proofs.ScanLaws.{drop_past}
 use Rattle.inspect.specs.Columns.{last_digits}
 
 -- ---- a text
 
--- what copying it over the rest of a list, from a place on, comes to
-pub text_stored : (o t ys : List ℕ) (at r : ℕ) → Room o at t → r ≡ length t → ys ≡ take (length t) t ++ drop (length t) (take (length o - at) (drop at o))
-    → Stored o at t (take at o ++ (ys ++ drop (length o - at) (drop at o))) (at + r)
+-- what copying it over as many places of a list, from a place on, comes to
+pub text_stored : (o t ys : List ℕ) (at : ℕ) → Room o at t → ys ≡ t → Stored o at t (take at o ++ (ys ++ drop (at + length t - at) (drop at o))) (at + length t)
 unfolding put
-text_stored o t ys at r h re ye =
-    let within : at + length t ≤ length o = h.room in
-    let new : ys ≡ t ++ drop (at + length t) o =
-    ye ∙ ap (λ (u : List ℕ). u ++ drop (length t) (take (length o - at) (drop at o))) (take_all (length t) t (omega arith))
-    ∙ ap (λ (u : List ℕ). t ++ drop (length t) u) (tail_is at o) ∙ ap (λ (u : List ℕ). t ++ u) (drop-drop (length t) at o)
-    in
-    let none : drop (length o - at) (drop at o) ≡ [] = drop-drop (length o - at) at o ∙ drop_past o (at + (length o - at)) (omega arith) in
+text_stored o t ys at h e =
+    let count : at + length t - at ≡ length t = omega arith in
     record {
       bytes =
-          ap (λ (u : List ℕ). take at o ++ (ys ++ u)) none ∙ ap (λ (u : List ℕ). take at o ++ u) (append-nil ys ∙ new)
-          ∙ sym (append_assoc (take at o) t (drop (at + length t) o)) ∙ sym (sets-eq t o at within);
-      next = ap (λ (j : ℕ). at + j) re;
+          ap (λ (k : ℕ). take at o ++ (ys ++ drop k (drop at o))) count ∙ ap (λ (u : List ℕ). take at o ++ (ys ++ u)) (drop-drop (length t) at o)
+          ∙ ap (λ (u : List ℕ). take at o ++ (u ++ drop (at + length t) o)) e
+          ∙ sym (append_assoc (take at o) t (drop (at + length t) o)) ∙ sym (sets-eq t o at h.room);
+      next = refl;
     }
 
 -- ---- a number in decimal
@@ -43,7 +36,7 @@ text_stored o t ys at r h re ye =
 glyph_digit : (d : ℕ) → d < 10 → hex_digit_ascii d ≡ 48 + d
 glyph_digit d h = rw (lt-ltb _ _ h) refl
 
-pub digits_decimal : (k n : ℕ) → IsDigitCount 10 1 n k → last_digits 10 k n ≡ decimal n
+pub digits_decimal : (k n : ℕ) → IsDigitCount 10 1 n k → digits 10 k n ≡ decimal n
 digits_decimal zero n h = absurd (omega (arith, h.0))
 digits_decimal (suc zero) n h =
     let l : n < 10 = omega (arith, h.1) in

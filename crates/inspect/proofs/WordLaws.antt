@@ -13,13 +13,11 @@ use Rattle.slash.specs.Formats.{known, of_known, width_of}
 use Rattle.slash.specs.Numbers.{parts_of, pair_of}
 use Rattle.slash.specs.Reading.{read_word, reading_outcome}
 use Rattle.slash.specs.declared.answer.Answer.{Answer}
-use Rattle.slash.specs.declared.answer.Answer.TheVariants as Answer
 use Rattle.slash.specs.declared.answer.Stop.{Stop}
 use Rattle.slash.specs.declared.format.Format.{Format}
 use Rattle.slash.specs.declared.number.Number.{Number}
 use Rattle.slash.specs.declared.number.Parts.{Parts}
 use Rattle.slash.specs.declared.reading.Reading.{Reading}
-use Rattle.slash.specs.declared.reading.Reading.TheVariants as Reading
 use Rattle.slash.proofs.AnswerLaws.{done_inj, no_stop}
 use Rattle.slash.proofs.FormatLaws.{of_known_lem, width_range, largest_below}
 use Rattle.slash.proofs.ReadingLaws.{read_stops}

@@ -1,6 +1,6 @@
 -- The columns of an inspected word.
 use Rattle.std.specs.Prelude.{ℕ, zero, suc, ◌+◌, ◌*◌, ◌/◌, ◌%◌, Bool, true, false, List, [], ◌∷◌, ◌++◌, eqb}
-use Rattle.convergents.specs.Choice.{if◌then◌else◌}
+use Rattle.std.specs.Prelude.{if◌then◌else◌}
 use Rattle.slash.specs.Formats.{width_of}
 use Rattle.slash.specs.declared.format.Format.{Format}
 use Rattle.text.specs.Numbers.{point, hyphen, decimal, hex_digit}

@@ -1,12 +1,11 @@
 -- What is printed of a line of input, and the format of the words behind it.
 use Rattle.std.specs.Prelude.{ℕ, List, []}
-use Rattle.convergents.specs.Choice.{if◌then◌else◌}
+use Rattle.std.specs.Prelude.{if◌then◌else◌}
 use Rattle.slash.specs.Formats.{known}
 use Rattle.slash.specs.declared.format.Format.{Format}
 use Rattle.text.specs.Lines.{refused_line}
 use Rattle.inspect.specs.Words.{inspected_text}
 use Rattle.inspect.specs.declared.said.Said.{Said}
-use Rattle.inspect.specs.declared.said.Said.TheVariants as Said
 
 -- Of a format nothing, where it is known, else stop 1; of a word its text, in the format f; of anything else stop 13; of a line that isn't ended
 -- stop 9.

@@ -1,10 +1,9 @@
 -- What a line of input says, its line feed not counted: a format, a word, anything else, or that it isn't ended in time.
 use Rattle.std.specs.Prelude.{ℕ, ◌+◌, ◌-◌, ◌*◌, ◌&&◌, List, [], ◌∷◌, eqb, leb, ltb, length, take, drop}
-use Rattle.convergents.specs.Choice.{if◌then◌else◌}
+use Rattle.std.specs.Prelude.{if◌then◌else◌}
 use Rattle.slash.specs.Formats.{format_of}
 use Rattle.text.specs.Scan.{length_before, same}
 use Rattle.inspect.specs.declared.said.Said.{Said}
-use Rattle.inspect.specs.declared.said.Said.TheVariants as Said
 
 -- The value of a hexadecimal digit, of either case: 0 to 9 (bytes 48 to 57), a to f (97 to 102), A to F (65 to 70); 16 of any other byte.
 unfoldable pub digit_value : ℕ → ℕ

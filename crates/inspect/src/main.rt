@@ -1,5 +1,8 @@
 // Reads formats and words from standard input, a line each, and prints what each word says, or the
 // line of its stop.
+
+#![tactic(auto)]
+
 mod columns;
 mod line;
 mod quotient;
@@ -11,8 +14,15 @@ ghost use Rattle.std.specs.Prelude.{◌≡◌, ◌+◌, ◌≤◌, length};
 
 use crate::line::{TEXT_ROOM, format_behind, put_said};
 use crate::said::{Said, read_line};
-use libc::{STDERR_FILENO, STDIN_FILENO, STDOUT_FILENO};
 use slash::Format;
+use std::env::FillError;
+use std::io::Read;
+use std::rt::{Env, Stdin};
+
+// The numbers of the streams that are written to.
+const STDOUT_FILENO: i32 = 1;
+
+const STDERR_FILENO: i32 = 2;
 
 // No input has so many lines, nor takes so many reads.
 const MOST: u64 = 18446744073709551615;
@@ -167,14 +177,15 @@ fn tell_unwritten() {
     io::write_all(STDERR_FILENO, b"inspect: the text cannot be written\n");
 }
 
-// The end of the input, which may have come before a line's end, or a read that failed.
-fn end(run: Run, got: isize, text: &mut [u8])
+// Tells that standard input can't be read.
+fn tell_unread() {
+    io::write_all(STDERR_FILENO, b"inspect: the words cannot be read\n");
+}
+
+// The end of the input, which may have come before a line's end.
+fn end(run: Run, text: &mut [u8])
     requires { (run.waiting ≤ length text.old) × (1024 ≤ length text.old) }
 {
-    if got < 0 {
-        io::write_all(STDERR_FILENO, b"inspect: the words cannot be read\n");
-        return;
-    }
     if run.held == 0 {
         return;
     }
@@ -186,16 +197,19 @@ fn end(run: Run, got: isize, text: &mut [u8])
 }
 
 // Reads the input to its end, or up to a write that fails. A pipe may hand over few bytes a read.
-fn inspect_input() {
+fn inspect_input(input: Stdin) {
+    let mut input = input;
     let mut bytes = input_buffer();
     let mut line = line_buffer();
     let mut text = text_buffer();
     let mut run = start();
     for _ in 0..MOST {
-        let got = libc::read(STDIN_FILENO, &mut bytes);
-        let n = io::count(got, &bytes);
+        let Ok(n) = input.read(&mut bytes) else {
+            tell_unread();
+            return;
+        };
         if n == 0 {
-            end(run, got, &mut text);
+            end(run, &mut text);
             return;
         }
         run = take_bytes(run, &bytes[..n], &mut line, &mut text);
@@ -206,13 +220,23 @@ fn inspect_input() {
     }
 }
 
-fn main() {
-    if 1 < os::arg_count() {
+// Whether the program was started with an argument.
+fn has_argument(rt: &HostRuntime) -> bool {
+    // Only that it is there is asked: one that has no room is there too.
+    match rt.arg(1, &mut [0u8; 1]) {
+        Ok(_) => true,
+        Err(FillError::TooLong) => true,
+        Err(FillError::NotPresent) => false,
+    }
+}
+
+fn main(rt: HostRuntime) {
+    if has_argument(&rt) {
         io::write_all(
             STDERR_FILENO,
             b"usage: inspect < words (lines: fixed K or floating K, then words in hexadecimal)\n",
         );
         return;
     }
-    inspect_input();
+    inspect_input(rt.stdin());
 }

@@ -2,14 +2,13 @@
 -- `state_again`, `begun_again`: the state of a night of a recording tells that night. `piece_again`: so does the state that a call leaves tell the
 -- night behind its piece, and calls in a row make the listing.
 use mathlib.Core.Path.{◌≡◌, refl, sym, ap, ◌∙◌, subst}
-use mathlib.Core.Bool.{Bool, true, false, ◌&&◌, ◌||◌, not}
+use mathlib.Core.Bool.{Bool, true, false, ◌&&◌}
 use mathlib.Core.List.{List, [], ◌∷◌}
 use Prim.Native.Nat.{ℕ, ◌+◌, ◌*◌, ◌%◌, ◌^◌, ◌≤◌, ◌<◌}
 use native.Mathlib.Omega.{arith}
-use lib.Dec.{eqb, ltb, leb}
+use lib.Dec.{eqb, ltb}
 use lib.ListN.{get_or, length}
 use borrow.Author.Tests.{lt-ltb, le-ltb}
-use Rattle.convergents.specs.Choice.{if◌then◌else◌}
 use Rattle.slash.specs.Answers.{Outcome, stop, done, Stops}
 use Rattle.slash.specs.declared.answer.Stop.{Stop}
 use Rattle.slash.proofs.AnswerLaws.{some_not, if_case, done_inj, no_stop}
@@ -18,7 +17,6 @@ use Rattle.breaths.proofs.RateLaws.{rate_done, rate_made}
 use Rattle.breaths.specs.declared.sums.Sums.{Sums}
 use Rattle.breaths.specs.declared.rate.Rate.{Rate}
 use Rattle.breaths.specs.declared.rate.RateMade.{RateMade}
-use Rattle.breaths.specs.declared.rate.RateMade.TheVariants as RateMade
 use Rattle.text.specs.Stores.{list_after, at_start}
 use Rattle.vectors.specs.Each.{vector_after}
 use Rattle.listing.specs.Nights.{is_rated, is_night}
@@ -29,13 +27,11 @@ use Rattle.listing.specs.declared.night.Night.{Night}
 use Rattle.listing.specs.declared.night.Night.TheVariants.{Begun, Rated}
 use Rattle.listing.specs.declared.night.RatedNight.{RatedNight}
 use Rattle.listing.specs.declared.piece.End.{End}
-use Rattle.listing.specs.declared.piece.End.TheVariants as End
 use Rattle.listing.specs.declared.piece.Piece.{Piece}
 use Rattle.lekhnaom.specs.Status.{status}
 use Rattle.lekhnaom.specs.Pieces.{no_night, state_of, rated_from, night_from, night_at, told_by, piece_from, ended_of, piece_numbers, state_behind, text_of, numbers_behind, PiecesMakeListing, BestFrom}
 use Rattle.lekhnaom.specs.Steps.{state_outcome}
 use Rattle.lekhnaom.specs.declared.pieces.State.{State}
-use Rattle.lekhnaom.specs.declared.pieces.State.TheVariants as State
 
 -- ---- the night of a state
 

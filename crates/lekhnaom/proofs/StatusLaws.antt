@@ -13,7 +13,6 @@ use Rattle.slash.specs.declared.answer.Stop.{Stop}
 use Rattle.loading.specs.Fills.{loaded_outcome}
 use Rattle.loading.specs.declared.load.Counted.{Counted}
 use Rattle.loading.specs.declared.load.Loaded.{Loaded}
-use Rattle.loading.specs.declared.load.Loaded.TheVariants as Loaded
 use Rattle.lekhnaom.specs.Status.{status, behind, breaths_of, total_of}
 
 behind_done : (x old : ℕ) → behind (done x) old ≡ x

@@ -28,7 +28,6 @@ use Rattle.slash.specs.declared.number.Value.{Value}
 use Rattle.slash.specs.declared.number.Value.TheVariants.{Fraction, Zero, Infinity, NotANumber}
 use Rattle.slash.specs.declared.answer.Stop.{Stop}
 use Rattle.slash.specs.declared.reading.Checked.{Checked}
-use Rattle.slash.specs.declared.reading.Checked.TheVariants as Checked
 use Rattle.slash.specs.declared.reading.GoodWord.{GoodWord}
 use Rattle.vectors.specs.Each.{vector_after}
 use Rattle.lekhnaom.specs.Status.{status}

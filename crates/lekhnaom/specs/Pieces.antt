@@ -1,6 +1,6 @@
 -- A night listed in pieces for a caller in C: its state, and what a piece came to, as numbers in a row.
 use Rattle.std.specs.Prelude.{ℕ, Bool, ◌&&◌, not, List, [], ◌∷◌, eqb, ltb, get_or, length}
-use Rattle.convergents.specs.Choice.{if◌then◌else◌}
+use Rattle.std.specs.Prelude.{if◌then◌else◌}
 use Rattle.slash.specs.Answers.{Outcome, stop, done, ◌then◌, WhenDone}
 use Rattle.breaths.specs.Rates.{make_rate}
 use Rattle.breaths.specs.declared.rate.Rate.{Rate}

@@ -3,7 +3,6 @@ use Rattle.slash.specs.Answers.{Outcome, done}
 use Rattle.listing.specs.declared.night.Night.{Night}
 use Rattle.lekhnaom.specs.Pieces.{no_night}
 use Rattle.lekhnaom.specs.declared.pieces.State.{State}
-use Rattle.lekhnaom.specs.declared.pieces.State.TheVariants as State
 
 -- The outcome that a told state stands for.
 abbrev pub state_outcome : State → Outcome Night

@@ -1,6 +1,6 @@
 -- A word's value as numbers in a row, which a caller in C reads and writes as a struct: sign, class, numerator, denominator, mark.
 use Rattle.std.specs.Prelude.{ℕ, Bool, ◌||◌, List, [], ◌∷◌, eqb, ltb, get_or}
-use Rattle.convergents.specs.Choice.{if◌then◌else◌}
+use Rattle.std.specs.Prelude.{if◌then◌else◌}
 use Rattle.slash.specs.Answers.{Outcome, stop, done, ◌then◌, WhenDone}
 use Rattle.slash.specs.Best.{BestForValue}
 use Rattle.slash.specs.Bits.{bit_of}

@@ -1,6 +1,9 @@
 // The library for callers in C and other languages: each function by its plain name, over the
 // proved ones. It returns 0, or the number and place of a stop; results go behind pointers and into
 // lent memory, which a stop leaves as it was.
+
+#![tactic(auto)]
+
 mod formats;
 mod listings;
 mod nights;

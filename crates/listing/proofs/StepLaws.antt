@@ -28,9 +28,7 @@ use Rattle.recording.specs.Reading.{next_outcome, next_of}
 use Rattle.recording.specs.declared.line.Entry.{Entry}
 use Rattle.recording.specs.declared.opening.Opening.{Opening}
 use Rattle.recording.specs.declared.opening.First.{First}
-use Rattle.recording.specs.declared.opening.First.TheVariants as First
 use Rattle.recording.specs.declared.reading.Next.{Next}
-use Rattle.recording.specs.declared.reading.Next.TheVariants as Next
 use Rattle.recording.proofs.LineLaws.{Whole}
 use Rattle.text.proofs.PartLaws.{tail_is}
 use Rattle.recording.proofs.ReadingLaws.{follows_breath, first_is, opening_within}

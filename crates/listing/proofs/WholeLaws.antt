@@ -9,7 +9,6 @@ use lib.ListN.{length, drop}
 use Rattle.slash.specs.Answers.{Outcome, stop, done, ◌then◌, completion_outcome}
 use Rattle.slash.specs.declared.answer.Stop.{Stop}
 use Rattle.slash.specs.declared.answer.Completion.{Completion}
-use Rattle.slash.specs.declared.answer.Completion.TheVariants as Completion
 use Rattle.slash.proofs.AnswerLaws.{no_stop, then_stopped}
 use Rattle.breaths.specs.Sums.{no_sums}
 use Rattle.breaths.specs.declared.breath.Breath.{Breath}

@@ -1,6 +1,6 @@
 -- A listing made in pieces: what is listed of some bytes where others may follow them.
 use Rattle.std.specs.Prelude.{ℕ, zero, suc, ◌-◌, ◌+◌, List, [], ◌++◌, ◌≡◌, Bool, true, false, ◌&&◌, ◌||◌, drop, length, take, leb, ltb}
-use Rattle.convergents.specs.Choice.{if◌then◌else◌}
+use Rattle.std.specs.Prelude.{if◌then◌else◌}
 use Rattle.slash.specs.Answers.{Outcome, stop, done, unnumbered}
 use Rattle.breaths.specs.Sums.{no_sums, night_ratio, sums_of, add_sums}
 use Rattle.breaths.specs.Ratios.{BestRatio}

@@ -1,4 +1,7 @@
 // A night's listing, whole or in pieces as the bytes of its recording come.
+
+#![tactic(auto)]
+
 mod listing;
 mod night;
 mod piece;

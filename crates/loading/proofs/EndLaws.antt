@@ -3,7 +3,7 @@
 use Rattle.std.proofs.Common.{◌≡◌, ℕ, zero, suc, ◌+◌, ◌*◌, ◌/◌, ◌%◌, ◌^◌, ◌<◌, ◌≤◌, Bool, true, false, eqb, List, [], ◌∷◌, length, get_or, take, drop, sym, refl, ap, ◌∙◌, pow-suc, arith, length-drop, length-take-le, eq-eqb, ne_eqb}
 use lib.Count.{under, count_trailing_zeros}
 use lib.Seq.{slice_empty, slice-cons}
-use Rattle.convergents.specs.Choice.{if◌then◌else◌}
+use Rattle.std.specs.Prelude.{if◌then◌else◌}
 use Rattle.text.specs.Scan.{length_before}
 use Rattle.text.proofs.ScanLaws.{before_step}
 use Rattle.loading.specs.Steps.{end_mark}

@@ -6,7 +6,7 @@ use mathlib.Core.Bool.{and-false}
 use native.Mathlib.Decide.{dec_lt, ℕ_discrete}
 use lib.Seq.{drop-append-le}
 use borrow.Author.Tests.{lt-leb}
-use Rattle.convergents.specs.Choice.{if◌then◌else◌}
+use Rattle.std.specs.Prelude.{if◌then◌else◌}
 use Rattle.convergents.specs.Pairs.{Pair}
 use Rattle.slash.specs.Answers.{Outcome, stop, done, ◌then◌}
 use Rattle.slash.specs.declared.answer.Stop.{Stop}
@@ -38,7 +38,6 @@ use Rattle.loading.specs.Fills.{where_fits, load_into, loaded_outcome, count_of,
 use Rattle.loading.specs.Steps.{word_from, words_in, numbers_in, Fits}
 use Rattle.loading.specs.declared.load.Counted.{Counted}
 use Rattle.loading.specs.declared.load.Loaded.{Loaded}
-use Rattle.loading.specs.declared.load.Loaded.TheVariants as Loaded
 use Rattle.loading.proofs.ListableLaws.{listable_small}
 use Rattle.loading.proofs.LineLaws.{digits_back, ratio_printable}
 use Rattle.loading.proofs.LoadLaws.{printed_from, printed_end, printed_more, load_only, exactly}

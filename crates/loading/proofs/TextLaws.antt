@@ -17,15 +17,13 @@ use Rattle.shapes.specs.declared.shape.Said.{Said}
 use Rattle.shapes.specs.declared.shape.Shape.{Shape}
 use Rattle.shapes.specs.declared.shape.Shape.TheVariants.{Line, Other}
 use Rattle.loading.specs.Listable.{listable}
-use Rattle.loading.specs.Lines.{breath, total, entry_of}
+use Rattle.loading.specs.Lines.{breath, entry_of}
 use Rattle.loading.specs.Loads.{Listing, at_end, behind_all, ended_from, with_word, load_from, load}
 use Rattle.loading.specs.Fills.{count_of}
 use Rattle.loading.specs.Steps.{judged_outcome, begins, line_there, Breath, AtOnce, TurnIs, EndIs}
 use Rattle.loading.specs.declared.load.Counted.{Counted}
 use Rattle.loading.specs.declared.line.Judged.{Judged}
-use Rattle.loading.specs.declared.line.Judged.TheVariants as Judged
 use Rattle.loading.specs.declared.load.Turn.{Turn}
-use Rattle.loading.specs.declared.load.Turn.TheVariants as Turn
 use Rattle.loading.proofs.LineLaws.{Taken, entry_only, line_long, there_some}
 use Rattle.loading.proofs.LoadLaws.{listing, follow, load_line, load_breath}
 

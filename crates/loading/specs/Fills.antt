@@ -1,11 +1,10 @@
 -- The lent lists behind loading: as they were on a stop; else the breath numbers and the words at their start, and their rest as it was.
 use Rattle.std.specs.Prelude.{ℕ, zero, suc, ◌&&◌, List, [], ◌∷◌, length, nat_le}
-use Rattle.convergents.specs.Choice.{if◌then◌else◌}
+use Rattle.std.specs.Prelude.{if◌then◌else◌}
 use Rattle.slash.specs.Answers.{Outcome, stop, done, ◌then◌}
 use Rattle.text.specs.Stores.{list_after}
 use Rattle.loading.specs.Loads.{Listing, load}
 use Rattle.loading.specs.declared.load.Loaded.{Loaded}
-use Rattle.loading.specs.declared.load.Loaded.TheVariants as Loaded
 use Rattle.loading.specs.declared.load.Counted.{Counted}
 
 -- Last stop 7: a list shorter than the breaths.

@@ -1,6 +1,6 @@
 -- A line of a listing that is read back: what it gives, or its stop.
 use Rattle.std.specs.Prelude.{ℕ, ◌&&◌, List, ◌++◌, take, ◌==◌, nat_le}
-use Rattle.convergents.specs.Choice.{if◌then◌else◌}
+use Rattle.std.specs.Prelude.{if◌then◌else◌}
 use Rattle.slash.specs.Answers.{Outcome, stop, done}
 use Rattle.breaths.specs.Ratios.{ratio_of}
 use Rattle.breaths.specs.Sums.{most_breaths}

@@ -1,6 +1,6 @@
 -- The listing of words: what is printed of breaths' words and of a total's.
 use Rattle.std.specs.Prelude.{◌≡◌, ℕ, suc, ◌≤◌, true, not, ◌&&◌, List, [], ◌∷◌, ◌++◌, length, ◌==◌, nat_le}
-use Rattle.convergents.specs.Choice.{if◌then◌else◌}
+use Rattle.std.specs.Prelude.{if◌then◌else◌}
 use Rattle.slash.specs.Answers.{Outcome, stop, done, ◌then◌}
 use Rattle.breaths.specs.Ratios.{ratio_of}
 use Rattle.breaths.specs.Sums.{most_breaths}

@@ -1,6 +1,6 @@
 -- For the code and the proofs alone: what the functions that read a text and fill the lists promise.
 use Rattle.std.specs.Prelude.{◌≡◌, ℕ, suc, ◌+◌, ◌*◌, ◌/◌, ◌%◌, ◌≤◌, Bool, true, false, ◌&&◌, ◌⊎◌, List, [], ◌∷◌, length, take, drop, ◌==◌}
-use Rattle.convergents.specs.Choice.{if◌then◌else◌}
+use Rattle.std.specs.Prelude.{if◌then◌else◌}
 use Rattle.convergents.specs.Pairs.{Lowest}
 use Rattle.slash.specs.Answers.{Outcome, stop, done}
 use Rattle.breaths.specs.Ratios.{ratio_of}
@@ -12,9 +12,7 @@ use Rattle.loading.specs.Lines.{Entry, breath, total}
 use Rattle.loading.specs.Loads.{Listing, with_word, load_from, ended_from}
 use Rattle.loading.specs.Fills.{up_from}
 use Rattle.loading.specs.declared.line.Judged.{Judged}
-use Rattle.loading.specs.declared.line.Judged.TheVariants as Judged
 use Rattle.loading.specs.declared.load.Turn.{Turn}
-use Rattle.loading.specs.declared.load.Turn.TheVariants as Turn
 
 -- ---- a word
 

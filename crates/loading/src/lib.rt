@@ -1,4 +1,7 @@
 // Listings read back, and the listing of words.
+
+#![tactic(auto)]
+
 mod fill;
 mod line;
 mod listable;

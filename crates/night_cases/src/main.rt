@@ -6,6 +6,9 @@
 //   must be printed as that text.
 // - words: their listing is written, or the stop.
 // tests/second writes the requests and what the answers must be.
+
+#![tactic(auto)]
+
 mod lists;
 mod loads;
 mod pieces;
@@ -17,9 +20,11 @@ mod voids;
 
 ghost use Rattle.std.specs.Prelude.{◌≡◌, ◌≤◌, length};
 
-use libc::STDIN_FILENO;
 use recipe::Recipe;
 use slash::Answer;
+
+// The number of standard input.
+const STDIN_FILENO: i32 = 0;
 
 fn recording_buffer() -> [u8; 2300000]
     ensures { 2300000 ≡ length result }

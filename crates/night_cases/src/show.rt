@@ -1,8 +1,10 @@
 // Writes answers to standard output: a listing, or what tells a long one, and what a call told.
 ghost use Rattle.std.specs.Prelude.{◌<◌};
 
-use libc::STDOUT_FILENO;
 use slash::Stop;
+
+// The number of standard output.
+const STDOUT_FILENO: i32 = 1;
 
 pub(crate) fn text(bytes: &[u8]) {
     io::write_all(STDOUT_FILENO, bytes);

@@ -1,17 +1,43 @@
 // Lists the recordings in the files that its arguments name, each behind its name, and tells how
 // each run ended; then all of them once more, to where nothing can be written. tests/second writes
 // the files and what must be written.
+
+#![tactic(auto)]
+
 ghost use Rattle.std.specs.Prelude.{◌≡◌, length};
 
-use libc::STDOUT_FILENO;
 use slash::Stop;
+use std::io::{Read, Write};
+use std::rt::Env;
+use std::{fs, io};
 use stream::Run;
 
-// No file.
-const NOWHERE: i32 = -1;
+// A recording that can't be read: no file.
+#[derive(Drop)]
+struct Unreadable;
 
-fn show(text: &[u8]) {
-    io::write_all(STDOUT_FILENO, text);
+impl Read for Unreadable {
+    fn read(&mut self, _buf: &mut [u8]) -> io::Result<usize> {
+        Err(io::Error::from(io::ErrorKind::NotFound))
+    }
+}
+
+// Where nothing can be written.
+#[derive(Drop)]
+struct Nowhere;
+
+impl Write for Nowhere {
+    fn write(&mut self, _buf: &[u8]) -> io::Result<usize> {
+        Err(io::Error::from(io::ErrorKind::BrokenPipe))
+    }
+
+    fn flush(&mut self) -> io::Result<()> {
+        Ok(())
+    }
+}
+
+fn show(rt: &HostRuntime, text: &[u8]) {
+    let _ = rt.stdout().write_all(text);
 }
 
 fn line_buffer() -> [u8; 50]
@@ -20,52 +46,62 @@ fn line_buffer() -> [u8; 50]
     [0; 50]
 }
 
-fn show_stop(stop: Stop) {
+fn show_stop(rt: &HostRuntime, stop: Stop) {
     let mut line = line_buffer();
     let n = text::refused_line(stop, &mut line);
-    show(&line[..n]);
+    show(rt, &line[..n]);
 }
 
-fn show_end(run: Run) {
-    show(b"# ");
+fn show_end(rt: &HostRuntime, run: Run) {
+    show(rt, b"# ");
     match run {
         Run::Listed => {
-            show(b"listed\n");
+            show(rt, b"listed\n");
         }
         Run::Refused(stop) => {
-            show_stop(stop);
+            show_stop(rt, stop);
         }
         Run::Unread => {
-            show(b"unread\n");
+            show(rt, b"unread\n");
         }
         Run::Unwritten => {
-            show(b"unwritten\n");
+            show(rt, b"unwritten\n");
         }
+    }
+}
+
+// The recording in the file of a name, or of none that can be opened.
+fn list_named<W: Write>(rt: &HostRuntime, name: &[u8], to: &mut W) -> Run {
+    let Ok(path) = str::from_utf8(name) else {
+        return stream::night(&mut Unreadable, to, &mut rt.stdout());
+    };
+    match fs::open(rt, path) {
+        Ok(mut file) => stream::night(&mut file, to, &mut rt.stdout()),
+        Err(_) => stream::night(&mut Unreadable, to, &mut rt.stdout()),
     }
 }
 
 // One argument's file.
-fn list_file(at: usize, to: i32) {
-    let mut path = io::buffer();
-    let n = os::arg(at, &mut path);
-    show(b"# ");
-    show(&path[..n]);
-    show(b"\n");
-    let fd = os::open_read(&path[..n]);
-    show_end(stream::night(fd, to, STDOUT_FILENO));
-    if 0 <= fd {
-        libc::close(fd);
-    }
+fn list_file<W: Write>(rt: &HostRuntime, name: &[u8], to: &mut W) {
+    show(rt, b"# ");
+    show(rt, name);
+    show(rt, b"\n");
+    let run = list_named(rt, name, to);
+    show_end(rt, run);
 }
 
 // Each argument's file.
-fn list_files(to: i32) {
-    for i in 1..os::arg_count() {
-        list_file(i, to);
+fn list_files<W: Write>(rt: &HostRuntime, to: &mut W) {
+    let mut name = [0u8; 4096];
+    for i in 1..usize::MAX {
+        let Ok(n) = rt.arg(i, &mut name) else {
+            return;
+        };
+        list_file(rt, &name[..n], to);
     }
 }
 
-fn main() {
-    list_files(STDOUT_FILENO);
-    list_files(NOWHERE);
+fn main(rt: HostRuntime) {
+    list_files(&rt, &mut rt.stdout());
+    list_files(&rt, &mut Nowhere);
 }

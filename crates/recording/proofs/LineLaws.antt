@@ -14,7 +14,7 @@ use lib.Dec.{eqb, leb, ltb}
 use lib.ListN.{length, get_or, take, drop, length-append, length-take, length-drop}
 use lib.Seq.{take-append-le, take-append_seam, take-take, split_at, take-suc, take_all, get_or-drop}
 use borrow.Author.Tests.{eq-eqb, ne_eqb, le-leb, lt-leb, le-ltb, lt-ltb, leb-true, leb-false}
-use Rattle.convergents.specs.Choice.{if◌then◌else◌}
+use Rattle.std.specs.Prelude.{if◌then◌else◌}
 use Rattle.breaths.specs.Breaths.{breath_of}
 use Rattle.breaths.proofs.RatioLaws.{or_parts}
 use Rattle.text.specs.Scan.{length_before, is_digit, parted}

@@ -16,7 +16,6 @@ use Rattle.slash.proofs.AnswerLaws.{if_case}
 use Rattle.breaths.specs.Rates.{is_rate, make_rate, rate_outcome}
 use Rattle.breaths.specs.declared.rate.Rate.{Rate}
 use Rattle.breaths.specs.declared.rate.RateMade.{RateMade}
-use Rattle.breaths.specs.declared.rate.RateMade.TheVariants as RateMade
 use Rattle.breaths.proofs.RateLaws.{rate_words, rate_is, rate_made, rate_not_made}
 use Rattle.text.specs.Scan.{length_before, is_digit, parted, same}
 use Rattle.text.specs.Numbers.{decimal}

@@ -15,7 +15,7 @@ use lib.Dec.{ltb}
 use lib.ListN.{length, take, drop, length-append, length-drop, take-append-drop}
 use lib.Seq.{drop-drop}
 use borrow.Author.Tests.{lt-ltb, le-ltb}
-use Rattle.convergents.specs.Choice.{if◌then◌else◌}
+use Rattle.std.specs.Prelude.{if◌then◌else◌}
 use Rattle.slash.specs.Answers.{Outcome, stop, done, ◌then◌}
 use Rattle.slash.specs.declared.answer.Stop.{Stop}
 use Rattle.breaths.specs.declared.breath.Breath.{Breath}
@@ -24,16 +24,12 @@ use Rattle.recording.specs.Lines.{from_fields, read_line}
 use Rattle.recording.specs.Openings.{Start, a_rate, no_line, first_outcome, first_of}
 use Rattle.recording.specs.Steps.{LineLength, next_length}
 use Rattle.recording.specs.declared.reading.Length.{Length}
-use Rattle.recording.specs.declared.reading.Length.TheVariants as Length
 use Rattle.recording.specs.Reading.{Coming, a_breath, the_end, next_outcome, from_line, next_of, breaths_from, check_from, breaths_on, check_on, rate_in, breaths_in, recording_check, RecordingStop}
 use Rattle.recording.specs.declared.line.Entry.{Entry}
 use Rattle.recording.specs.declared.opening.Opening.{Opening}
 use Rattle.recording.specs.declared.opening.First.{First}
-use Rattle.recording.specs.declared.opening.First.TheVariants as First
 use Rattle.recording.specs.declared.line.Line.{Line}
-use Rattle.recording.specs.declared.line.Line.TheVariants as Line
 use Rattle.recording.specs.declared.reading.Next.{Next}
-use Rattle.recording.specs.declared.reading.Next.TheVariants as Next
 use Rattle.recording.proofs.LineLaws.{Whole, Sound, Ready, line_sound, ready_line, ready_some, whole_ready}
 use Rattle.recording.proofs.OpeningLaws.{first_rated, first_stopped}
 

@@ -21,7 +21,6 @@ use Rattle.recording.specs.declared.line.Tick.TheVariants.{Good}
 use Rattle.recording.specs.declared.line.Entry.{Entry}
 use Rattle.recording.specs.declared.line.Line.TheVariants.{Read, Refused}
 use Rattle.recording.specs.declared.line.Pass.{Pass}
-use Rattle.recording.specs.declared.line.Pass.TheVariants as Pass
 use Rattle.text.proofs.ScanLaws.{before_step, before_le, before_take}
 use Rattle.text.proofs.PartLaws.{parted_step, parted_none}
 use Rattle.recording.proofs.LineLaws.{Leading, leading_start, leading_end, leading_low, leading_high, leading_next, digits_step, no_tick, digit_bounds, tick_digits, leading_tick, start_some}

@@ -1,6 +1,6 @@
 -- A line of a recording: its fields; a breath's: onset, peak, next onset.
 use Rattle.std.specs.Prelude.{ℕ, suc, ◌+◌, ◌-◌, ◌*◌, true, false, ◌&&◌, List, [], ◌∷◌, eqb, leb, ltb, length, take}
-use Rattle.convergents.specs.Choice.{if◌then◌else◌}
+use Rattle.std.specs.Prelude.{if◌then◌else◌}
 use Rattle.breaths.specs.Breaths.{most_ticks, breath_of}
 use Rattle.text.specs.Scan.{length_before, is_digit, parted}
 use Rattle.recording.specs.declared.line.Tick.{Tick}

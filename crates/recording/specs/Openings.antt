@@ -1,6 +1,6 @@
 -- The first line of a recording: `rate`, a tab, and the rate.
 use Rattle.std.specs.Prelude.{ℕ, List, [], ◌∷◌}
-use Rattle.convergents.specs.Choice.{if◌then◌else◌}
+use Rattle.std.specs.Prelude.{if◌then◌else◌}
 use Rattle.slash.specs.Answers.{Outcome, stop, done}
 use Rattle.breaths.specs.Rates.{is_rate}
 use Rattle.text.specs.Scan.{same}
@@ -9,7 +9,6 @@ use Rattle.recording.specs.declared.line.Tick.{Tick}
 use Rattle.recording.specs.declared.line.Tick.TheVariants.{Good, Wrong}
 use Rattle.recording.specs.declared.opening.Opening.{Opening}
 use Rattle.recording.specs.declared.opening.First.{First}
-use Rattle.recording.specs.declared.opening.First.TheVariants as First
 
 -- What a recording opens with where nothing stops: its rate, with how many bytes the line uses; or its end.
 pub data Start : Type 0 where

@@ -1,6 +1,6 @@
 -- A recording line by line: what comes next, its rate and its breaths, and whether a line stops it.
 use Rattle.std.specs.Prelude.{ℕ, zero, suc, ◌-◌, ◌≤◌, ◌≡◌, ◌⊎◌, List, [], ◌∷◌, ltb, drop}
-use Rattle.convergents.specs.Choice.{if◌then◌else◌}
+use Rattle.std.specs.Prelude.{if◌then◌else◌}
 use Rattle.slash.specs.Answers.{Outcome, stop, done, ◌then◌}
 use Rattle.breaths.specs.Sums.{most_breaths}
 use Rattle.breaths.specs.declared.breath.Breath.{Breath}
@@ -8,9 +8,7 @@ use Rattle.recording.specs.Lines.{read_line}
 use Rattle.recording.specs.Openings.{a_rate, no_line, first_of}
 use Rattle.recording.specs.declared.line.Entry.{Entry}
 use Rattle.recording.specs.declared.line.Line.{Line}
-use Rattle.recording.specs.declared.line.Line.TheVariants as Line
 use Rattle.recording.specs.declared.reading.Next.{Next}
-use Rattle.recording.specs.declared.reading.Next.TheVariants as Next
 
 -- ---- what comes next
 

@@ -1,6 +1,6 @@
 -- Reading in one pass: what the functions that read the start of some bytes promise.
 use Rattle.std.specs.Prelude.{ℕ, suc, ◌+◌, ◌^◌, ◌≤◌, ◌<◌, ◌≡◌, Bool, false, ◌&&◌, List, ◌∷◌, ◌++◌, leb, length, get_or, take, drop}
-use Rattle.convergents.specs.Choice.{if◌then◌else◌}
+use Rattle.std.specs.Prelude.{if◌then◌else◌}
 use Rattle.slash.specs.Answers.{Outcome, stop, done}
 use Rattle.breaths.specs.Breaths.{most_ticks}
 use Rattle.breaths.specs.declared.breath.Breath.{Breath}
@@ -10,9 +10,7 @@ use Rattle.recording.specs.Reading.{Coming, a_breath, the_end}
 use Rattle.recording.specs.declared.line.Tick.TheVariants.{Good, Wrong}
 use Rattle.recording.specs.declared.line.Line.TheVariants.{Read}
 use Rattle.recording.specs.declared.line.Pass.{Pass}
-use Rattle.recording.specs.declared.line.Pass.TheVariants as Pass
 use Rattle.recording.specs.declared.reading.Length.{Length}
-use Rattle.recording.specs.declared.reading.Length.TheVariants as Length
 
 -- From place `from` on stand the digits of v, up to place `end`: there is no digit, or it is the limit. Whatever bytes stand behind them go on
 -- from v, where v is a tick mark.

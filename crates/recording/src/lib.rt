@@ -1,4 +1,7 @@
 // A night's recording: its lines, read one by one.
+
+#![tactic(auto)]
+
 mod line;
 mod measure;
 mod opening;

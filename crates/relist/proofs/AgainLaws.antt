@@ -16,7 +16,6 @@ use Rattle.loading.specs.Loads.{Listing, load}
 use Rattle.loading.specs.Fills.{where_fits, load_into, loaded_outcome, count_of, words_after}
 use Rattle.loading.specs.declared.load.Counted.{Counted}
 use Rattle.loading.specs.declared.load.Loaded.{Loaded}
-use Rattle.loading.specs.declared.load.Loaded.TheVariants as Loaded
 use Rattle.loading.proofs.LoadLaws.{load_only}
 use Rattle.loading.proofs.FillLaws.{count_stop}
 use Rattle.loading.proofs.PrintLaws.{print_listing}

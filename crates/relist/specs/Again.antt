@@ -2,7 +2,7 @@
 use Rattle.std.specs.Prelude.{ℕ, ◌≡◌, List}
 use Rattle.slash.specs.Answers.{Outcome, done, ◌then◌}
 use Rattle.loading.specs.Prints.{printed}
-use Rattle.loading.specs.Loads.{Listing, load}
+use Rattle.loading.specs.Loads.{load}
 
 -- The stop of a text, or the listing of the words that it holds.
 unfoldable pub printed_again : List ℕ → Outcome (List ℕ)

@@ -1,11 +1,21 @@
 // Reads a listing from standard input and prints the listing of the words that it holds, or the line
 // of its stop.
+
+#![tactic(auto)]
+
 mod again;
 
 ghost use Rattle.std.specs.Prelude.{◌≡◌, length};
 
-use libc::{STDERR_FILENO, STDIN_FILENO, STDOUT_FILENO};
 use slash::{Answer, Stop};
+use std::io::Read;
+
+// The numbers of the standard streams.
+const STDIN_FILENO: i32 = 0;
+
+const STDOUT_FILENO: i32 = 1;
+
+const STDERR_FILENO: i32 = 2;
 
 // Room for what is read: nearly half as much again as the longest listing has. The first bad line of a text that
 // is longer stands in it, unless that line alone runs on behind it, and then 13 is told, as of a line
@@ -49,13 +59,16 @@ fn relist(text: &[u8]) {
     }
 }
 
-fn main() {
+fn main(rt: HostRuntime) {
     let mut text = text_buffer();
     let length = io::read_full(STDIN_FILENO, &mut text);
     // Where room was left the text has ended, or a read failed: one read more tells which.
     let mut more = [0u8; 1];
-    let got = libc::read(STDIN_FILENO, &mut more);
-    if (got < 0) | ((0 < got) & (length < 3145728)) {
+    let is_cut = match rt.stdin().read(&mut more) {
+        Ok(got) => (0 < got) & (length < 3145728),
+        Err(_) => true,
+    };
+    if is_cut {
         io::write_all(STDERR_FILENO, b"the listing cannot be read\n");
         return;
     }

@@ -10,7 +10,7 @@ use lib.Dec.{leb}
 use lib.ListN.{length, take, length-append}
 use lib.Seq.{length-take-le}
 use borrow.Author.Tests.{not-true, not-false}
-use Rattle.convergents.specs.Choice.{if◌then◌else◌}
+use Rattle.std.specs.Prelude.{if◌then◌else◌}
 use Rattle.convergents.specs.Pairs.{Pair}
 use Rattle.breaths.specs.Ratios.{word_of, fraction_of}
 use Rattle.breaths.specs.declared.ratio.Ratio.{Ratio}
@@ -30,7 +30,6 @@ use Rattle.shapes.specs.Shapes.{is_named, are_columns, shape_of_fields, shape_of
 use Rattle.shapes.specs.declared.shape.Said.{Said}
 use Rattle.shapes.specs.declared.shape.Shape.TheVariants.{Line, Other}
 use Rattle.shapes.specs.declared.word.Digits.{Digits}
-use Rattle.shapes.specs.declared.word.Digits.TheVariants as Digits
 use Rattle.shapes.proofs.FieldLaws.{every_append, every_one, free_above, decimal_above, whole_decimal, fraction_shape, decimal_shape, fraction_none}
 use Rattle.shapes.proofs.WordLaws.{hexadecimal_above, word_shape, word_back}
 

@@ -12,7 +12,7 @@ use native.Mathlib.Decide.{dec_lt}
 use lib.Dec.{eqb, leb}
 use lib.ListN.{length, get_or, drop}
 use borrow.Author.Tests.{eq-eqb, ne_eqb, le-leb, lt-leb, leb-true, lt-ltb, le-ltb, not-false}
-use Rattle.convergents.specs.Choice.{if◌then◌else◌}
+use Rattle.std.specs.Prelude.{if◌then◌else◌}
 use Rattle.slash.proofs.AnswerLaws.{and_parts}
 use Rattle.text.specs.Numbers.{hex_digit, hexadecimal}
 use Rattle.text.specs.Scan.{is_digit}
@@ -22,7 +22,6 @@ use Rattle.text.proofs.PartLaws.{drop_here}
 use Rattle.shapes.specs.Fields.{every}
 use Rattle.shapes.specs.Words.{is_hex_digit, is_word, hex_value, hex_from, word_in, word_read}
 use Rattle.shapes.specs.declared.word.Digits.{Digits}
-use Rattle.shapes.specs.declared.word.Digits.TheVariants as Digits
 use Rattle.shapes.proofs.FieldLaws.{digit_is, digit_range, every_append, every_one, Passing, passing_start, passing_not, passing_next, passing_end}
 
 -- ---- what is printed of a word

@@ -1,7 +1,7 @@
 -- The shape of a line, its line feed not counted: whole number or `all`; eight lowercase hexadecimal digits; two hyphens, or a fraction and a
 -- one-place decimal; tab-parted.
 use Rattle.std.specs.Prelude.{ℕ, Bool, ◌&&◌, ◌||◌, List, [], ◌∷◌, length}
-use Rattle.convergents.specs.Choice.{if◌then◌else◌}
+use Rattle.std.specs.Prelude.{if◌then◌else◌}
 use Rattle.text.specs.Numbers.{hyphen}
 use Rattle.text.specs.Scan.{same, parted}
 use Rattle.text.specs.Lines.{name_text}

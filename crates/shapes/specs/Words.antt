@@ -1,10 +1,9 @@
 -- A word as eight lowercase hexadecimal digits.
 use Rattle.std.specs.Prelude.{ℕ, ◌+◌, ◌-◌, ◌*◌, Bool, ◌&&◌, ◌||◌, List, [], ◌∷◌, eqb, leb, length}
-use Rattle.convergents.specs.Choice.{if◌then◌else◌}
+use Rattle.std.specs.Prelude.{if◌then◌else◌}
 use Rattle.text.specs.Scan.{is_digit}
 use Rattle.shapes.specs.Fields.{every}
 use Rattle.shapes.specs.declared.word.Digits.{Digits}
-use Rattle.shapes.specs.declared.word.Digits.TheVariants as Digits
 
 -- A digit from 0 to f: bytes 48 to 57, and 97 to 102.
 unfoldable pub is_hex_digit : ℕ → Bool

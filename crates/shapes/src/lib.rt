@@ -1,4 +1,7 @@
 // The shape of a line of a listing.
+
+#![tactic(auto)]
+
 mod field;
 mod shape;
 mod word;

@@ -8,14 +8,12 @@ use Prim.Native.Nat.{ℕ, ◌≤◌}
 use native.Mathlib.Omega.{arith}
 use lib.Dec.{eqb}
 use borrow.Author.Tests.{ne_eqb}
-use Rattle.convergents.specs.Choice.{if◌then◌else◌}
+use Rattle.std.specs.Prelude.{if◌then◌else◌}
 use Rattle.slash.specs.Answers.{Outcome, stop, done, ◌then◌, WhenDone, completion_outcome, written_outcome}
 use Rattle.slash.specs.Steps.{or_zero}
 use Rattle.slash.specs.declared.answer.Stop.{Stop}
 use Rattle.slash.specs.declared.answer.Completion.{Completion}
-use Rattle.slash.specs.declared.answer.Completion.TheVariants as Completion
 use Rattle.slash.specs.declared.answer.Written.{Written}
-use Rattle.slash.specs.declared.answer.Written.TheVariants as Written
 
 -- a stop made by `Stop::plain`
 pub plain_stop : {A : Type 0} (s : Stop) (n : ℕ) {o : Outcome A} → s ≡ record { number = n; place = 0 } → stop n 0 ≡ o → stop s.number s.place ≡ o

@@ -18,7 +18,6 @@ use Rattle.slash.specs.Answers.{stop, done, completion_outcome}
 use Rattle.slash.specs.Bits.{bit_count}
 use Rattle.slash.specs.Formats.{is_fixed, is_floating, k_fits, known, check_format, of_known, format_of, make_format, slash_bits, width_of, holds, largest_part}
 use Rattle.slash.specs.declared.answer.Completion.{Completion}
-use Rattle.slash.specs.declared.answer.Completion.TheVariants as Completion
 use Rattle.slash.specs.declared.format.Format.{Format}
 use Rattle.slash.proofs.AnswerLaws.{no_stop, then_stop, completion_done, and_parts}
 use Rattle.slash.proofs.BitLaws.{or_most, least_power_lem, least_count, bit_count_lt, bit_count_le, bit_count_pos, bit_count_mono}

@@ -9,7 +9,7 @@ use native.Mathlib.Nat.{le-div_iff_mul-le, div-lt_iff_lt-mul, div-add-mod', mod-
 use lib.Dec.{leb, eqb}
 use lib.Pow.{pow_pos, shr-shr}
 use borrow.Author.Tests.{le-leb, lt-leb, leb-true, leb-false, eq-eqb, ne_eqb}
-use Rattle.convergents.specs.Choice.{if◌then◌else◌}
+use Rattle.std.specs.Prelude.{if◌then◌else◌}
 use Rattle.slash.specs.Answers.{Outcome, stop, done, ◌then◌}
 use Rattle.slash.specs.Reading.{check_outcome, fixed_value, fixed_number, slash_position, slash_undefined, floating_fraction, floating_special, floating_number, number_of, is_above, check_word, good_word, checked_word, read_word, fields_of, number_in, fields_in, fixed_fields, floating_fields}
 use Rattle.slash.specs.Bits.{bits, bit}
@@ -21,7 +21,6 @@ use Rattle.slash.specs.declared.number.Value.{Value}
 use Rattle.slash.specs.declared.number.Value.TheVariants.{Fraction, Zero, Infinity, NotANumber}
 use Rattle.slash.specs.declared.number.Number.{Number}
 use Rattle.slash.specs.declared.reading.Checked.{Checked}
-use Rattle.slash.specs.declared.reading.Checked.TheVariants as Checked
 use Rattle.slash.specs.declared.reading.GoodWord.{GoodWord}
 use Rattle.slash.proofs.AnswerLaws.{done_inj, no_stop, then_stop, then_stopped, then_made}
 use Rattle.slash.proofs.BitLaws.{pow_before}

@@ -11,7 +11,7 @@ use native.Mathlib.Nat.{div-one, div-add-mod', mod-lt, mod-eq_of_lt, div-lt_iff_
 use lib.Dec.{leb, eqb}
 use lib.Pow.{pow_pos, pow-add, shr-shr}
 use borrow.Author.Tests.{le-leb, lt-leb, leb-false, ne_eqb}
-use Rattle.convergents.specs.Choice.{if◌then◌else◌}
+use Rattle.std.specs.Prelude.{if◌then◌else◌}
 use Rattle.convergents.specs.Pairs.{pair}
 use Rattle.slash.specs.Answers.{done}
 use Rattle.slash.specs.Bits.{bit_count, bits, bit, bit_of, word_of_fields}

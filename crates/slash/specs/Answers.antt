@@ -3,11 +3,8 @@
 -- of its cases, here those that most calls have.
 use Rattle.std.specs.Prelude.{ℕ}
 use Rattle.slash.specs.declared.answer.Answer.{Answer}
-use Rattle.slash.specs.declared.answer.Answer.TheVariants as Answer
 use Rattle.slash.specs.declared.answer.Completion.{Completion}
-use Rattle.slash.specs.declared.answer.Completion.TheVariants as Completion
 use Rattle.slash.specs.declared.answer.Written.{Written}
-use Rattle.slash.specs.declared.answer.Written.TheVariants as Written
 
 -- A call stops, with a number and a place and nothing more, or is done, with what it makes.
 pub data Outcome (A : Type 0) : Type 0 where

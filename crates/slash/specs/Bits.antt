@@ -1,6 +1,6 @@
 -- The bits of a number.
 use Rattle.std.specs.Prelude.{ℕ, zero, suc, ◌+◌, ◌*◌, ◌/◌, ◌%◌, ◌^◌, Bool, true, false, leb, eqb}
-use Rattle.convergents.specs.Choice.{if◌then◌else◌}
+use Rattle.std.specs.Prelude.{if◌then◌else◌}
 
 -- The least whole number from L on whose power of two is at least m, after at most `steps` steps.
 unfoldable pub least_from : (steps : ℕ) → ℕ → ℕ → ℕ

@@ -1,11 +1,10 @@
 -- Formats: which there are, how wide their words are, and which pairs they hold.
 use Rattle.std.specs.Prelude.{ℕ, ◌+◌, ◌-◌, ◌*◌, ◌^◌, Bool, ◌&&◌, ◌||◌, leb, eqb}
-use Rattle.convergents.specs.Choice.{if◌then◌else◌}
+use Rattle.std.specs.Prelude.{if◌then◌else◌}
 use Rattle.slash.specs.Answers.{Outcome, stop, done, ◌then◌}
 use Rattle.slash.specs.Bits.{least_power, bit_count}
 use Rattle.slash.specs.declared.format.Format.{Format}
 use Rattle.slash.specs.declared.format.Made.{Made}
-use Rattle.slash.specs.declared.format.Made.TheVariants as Made
 
 -- ---- which there are
 

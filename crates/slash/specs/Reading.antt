@@ -1,17 +1,15 @@
 -- Reading a word: the layouts of 01, and the checks that come first. A word is a number of 64 bits; bit 0 is lowest. The free bits of a zero, an
 -- infinity or a not-a-number, 01's *messages*, are in no value: they are ignored, and never written.
 use Rattle.std.specs.Prelude.{ℕ, ◌+◌, ◌-◌, ◌*◌, ◌^◌, ◌/◌, ◌%◌, Bool, ◌&&◌, false, not, leb, eqb}
-use Rattle.convergents.specs.Choice.{if◌then◌else◌}
+use Rattle.std.specs.Prelude.{if◌then◌else◌}
 use Rattle.slash.specs.Answers.{Outcome, stop, done, ◌then◌}
 use Rattle.slash.specs.Formats.{is_fixed, k_fits, when_known, slash_bits, width_of}
 use Rattle.slash.specs.Bits.{bits, bit}
 use Rattle.slash.specs.declared.format.Format.{Format}
 use Rattle.slash.specs.declared.number.Number.{Number}
 use Rattle.slash.specs.declared.reading.Checked.{Checked}
-use Rattle.slash.specs.declared.reading.Checked.TheVariants as Checked
 use Rattle.slash.specs.declared.reading.GoodWord.{GoodWord}
 use Rattle.slash.specs.declared.reading.Reading.{Reading}
-use Rattle.slash.specs.declared.reading.Reading.TheVariants as Reading
 use Rattle.slash.specs.declared.number.Value.{Value}
 use Rattle.slash.specs.declared.number.Value.TheVariants.{Fraction, Zero, Infinity, NotANumber}
 use Rattle.slash.specs.declared.fields.FixedFields.{FixedFields}

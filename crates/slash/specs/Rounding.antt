@@ -1,6 +1,6 @@
 -- Rounding into a format.
 use Rattle.std.specs.Prelude.{ℕ, eqb}
-use Rattle.convergents.specs.Choice.{if◌then◌else◌}
+use Rattle.std.specs.Prelude.{if◌then◌else◌}
 use Rattle.convergents.specs.Pairs.{Pair, differs}
 use Rattle.convergents.specs.Rounding.{round}
 use Rattle.slash.specs.Answers.{Outcome, stop, done}
@@ -8,7 +8,6 @@ use Rattle.slash.specs.Formats.{when_known, holds}
 use Rattle.slash.specs.declared.format.Format.{Format}
 use Rattle.slash.specs.declared.rounding.Rounded.{Rounded}
 use Rattle.slash.specs.declared.rounding.Rounding.{Rounding}
-use Rattle.slash.specs.declared.rounding.Rounding.TheVariants as Rounding
 
 -- The last convergent of N/D that the format holds, marked if its value isn't N/D.
 abbrev pub rounded : Format → ℕ → ℕ → Rounded

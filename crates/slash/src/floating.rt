@@ -66,6 +66,7 @@ fn special(negative: bool, f: u64) -> Value
     }
 }
 
+#[inline(always)]
 pub(crate) fn value(k: u64, w: u64) -> Value
     requires { (2 ≤ k) × (k ≤ 32) }
     ensures { result ≡ (floating_number k w).value }

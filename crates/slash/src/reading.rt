@@ -62,6 +62,7 @@ pub fn check(f: Format, w: u64) -> Checked
 
 impl GoodWord {
     // The value that the word says.
+    #[inline(always)]
     pub fn value(self) -> Value
         ensures { result ≡ (number_in self.format self.word).value }
     {

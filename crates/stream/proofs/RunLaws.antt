@@ -9,7 +9,6 @@ use Rattle.listing.specs.Pieces.{end_outcome}
 use Rattle.listing.specs.declared.night.Night.{Night}
 use Rattle.listing.specs.declared.night.Night.TheVariants.{Begun, Rated}
 use Rattle.listing.specs.declared.piece.End.{End}
-use Rattle.listing.specs.declared.piece.End.TheVariants as End
 use Rattle.listing.proofs.NightLaws.{Real, night_real}
 use Rattle.listing.proofs.PieceLaws.{StopIn}
 use Rattle.recording.proofs.ReadingLaws.{breath_stop}

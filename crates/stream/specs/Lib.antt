@@ -1,2 +1,2 @@
--- How a run over file descriptors ends.
+-- How a run ends that reads a recording and writes its listing.
 pub mod Runs

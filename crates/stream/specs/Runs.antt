@@ -1,4 +1,4 @@
--- How a run over file descriptors ends. What it reads and writes no contract can say.
+-- How a run ends that reads a recording and writes its listing. What it reads and writes its contract leaves open.
 use Rattle.std.specs.Prelude.{Bool, true, false}
 use Rattle.slash.specs.Answers.{Outcome, stop, done}
 use Rattle.recording.specs.Reading.{RecordingStop}

@@ -4,6 +4,8 @@ ghost use Rattle.io.specs.Counts.{IsPrefixLen};
 ghost use Rattle.text.specs.Scan.{length_before};
 ghost use Rattle.text.specs.Stores.{at_start};
 
+use std::io::Read;
+
 // How many bytes of the input stand at the buffer's front, whether the input has ended, and whether
 // no read failed.
 #[derive(Clone, Copy)]
@@ -16,18 +18,23 @@ pub(crate) struct Input {
 // Reads what is there behind the bytes that the buffer has: none of them is a line feed, so that
 // no line waits for this read, and there is room for a byte more, so that no byte means the end. A
 // pipe may hand over few bytes a read.
-pub(crate) fn read_more(fd: i32, buffer: &mut [u8], filled: usize) -> Input
+pub(crate) fn read_more<R: Read>(from: &mut R, buffer: &mut [u8], filled: usize) -> Input
     requires { (filled < length buffer.old) × (length_before 10 (take filled buffer.old) ≡ filled) }
     ensures counted { IsPrefixLen result.filled buffer.new }
     ensures grown { (result.last ≡ false → filled < result.filled) × (filled ≤ result.filled) }
     ensures kept { take filled buffer.new ≡ take filled buffer.old }
 {
-    let got = libc::read(fd, &mut buffer[filled..]);
-    let n = io::count(got, &buffer[filled..]);
-    Input {
-        filled: filled + n,
-        last: n == 0,
-        ok: 0 <= got,
+    match from.read(&mut buffer[filled..]) {
+        Ok(n) => Input {
+            filled: filled + n,
+            last: n == 0,
+            ok: true,
+        },
+        Err(_) => Input {
+            filled,
+            last: true,
+            ok: false,
+        },
     }
 }
 

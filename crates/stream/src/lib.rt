@@ -1,4 +1,7 @@
-// A night's recording read from a file descriptor, its listing written to another.
+// A night's recording read from a reader, its listing written to a writer.
+
+#![tactic(auto)]
+
 mod input;
 mod report;
 mod run;

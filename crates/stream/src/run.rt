@@ -6,6 +6,7 @@ use crate::input;
 use crate::report::report;
 use listing::{End, Night};
 use slash::Stop;
+use std::io::{Read, Write};
 
 // How a run ended: the listing is written to its end, `all`, or to the line of a stop; or it is cut
 // where the recording couldn't be read or the listing couldn't be written.
@@ -39,12 +40,12 @@ fn line_buffer() -> [u8; 50]
 }
 
 // Writes the line of a stop.
-fn refuse(to: i32, stop: Stop) -> Run
+fn refuse<W: Write>(to: &mut W, stop: Stop) -> Run
     ensures { (result ≡ Run.Refused stop) ⊎ (result ≡ Run.Unwritten) }
 {
     let mut line = line_buffer();
     let length = text::refused_line(stop, &mut line);
-    if io::write_all(to, &line[..length]) {
+    if to.write_all(&line[..length]).is_ok() {
         return Run::Refused(stop);
     }
     Run::Unwritten
@@ -53,7 +54,7 @@ fn refuse(to: i32, stop: Stop) -> Run
 // Reads a recording to its end or its first bad line, and writes its listing, each breath as soon as
 // its line feed has come. A turn that doesn't end it takes a line, or reads on where no line is whole,
 // so that it ends. (The night is the recording's at each turn, proved, so that it is never none.)
-pub fn list(from: i32, to: i32) -> Run
+pub fn list<R: Read, W: Write>(from: &mut R, to: &mut W) -> Run
     ensures { Tells (run_outcome result) }
 {
     let mut bytes = input_buffer();
@@ -64,7 +65,7 @@ pub fn list(from: i32, to: i32) -> Run
     loop {
         let piece = listing::list_piece(night, &bytes[..filled], last, &mut text);
         let length = piece.length;
-        if !io::write_all(to, &text[..length]) {
+        if to.write_all(&text[..length]).is_err() {
             return Run::Unwritten;
         }
         let end = piece.end;
@@ -96,7 +97,7 @@ pub fn list(from: i32, to: i32) -> Run
 }
 
 // The same, and what was refused or is cut is said in words: what the program `night` does.
-pub fn night(from: i32, to: i32, errors: i32) -> Run
+pub fn night<R: Read, W: Write, E: Write>(from: &mut R, to: &mut W, errors: &mut E) -> Run
     ensures { Tells (run_outcome result) }
 {
     let run = list(from, to);

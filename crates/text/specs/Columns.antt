@@ -1,6 +1,6 @@
 -- The columns of a printed line: word, fraction, percentage.
 use Rattle.std.specs.Prelude.{ℕ, ◌+◌, ◌*◌, ◌/◌, ◌%◌, List, ◌++◌, ltb, eqb}
-use Rattle.convergents.specs.Choice.{if◌then◌else◌}
+use Rattle.std.specs.Prelude.{if◌then◌else◌}
 use Rattle.convergents.specs.Pairs.{Pair, apart}
 use Rattle.text.specs.Numbers.{tab, slash, point, hyphen, decimal, hexadecimal}
 use Rattle.breaths.specs.Ratios.{word_of, fraction_of}

@@ -1,6 +1,6 @@
 -- The lines of a listing.
 use Rattle.std.specs.Prelude.{ℕ, suc, ◌^◌, Bool, true, ◌&&◌, List, [], ◌∷◌, ◌++◌, leb, ltb}
-use Rattle.convergents.specs.Choice.{if◌then◌else◌}
+use Rattle.std.specs.Prelude.{if◌then◌else◌}
 use Rattle.convergents.specs.Pairs.{Pair}
 use Rattle.breaths.specs.Ratios.{fraction_of}
 use Rattle.breaths.specs.Sums.{most_breaths}

@@ -1,6 +1,6 @@
 -- Numbers as text. A text is a list of bytes.
 use Rattle.std.specs.Prelude.{ℕ, zero, suc, ◌+◌, ◌/◌, ◌%◌, true, false, List, [], ◌∷◌, ◌++◌, ltb}
-use Rattle.convergents.specs.Choice.{if◌then◌else◌}
+use Rattle.std.specs.Prelude.{if◌then◌else◌}
 
 -- A tab, a line feed, a slash, a point, a hyphen.
 abbrev pub tab : List ℕ

@@ -1,4 +1,7 @@
 // The text of a listing: numbers, columns, lines, each stored into a lent list.
+
+#![tactic(auto)]
+
 mod columns;
 mod line;
 mod number;

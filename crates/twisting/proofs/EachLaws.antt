@@ -8,13 +8,12 @@ use native.Mathlib.Omega.{arith}
 use lib.ListN.{length}
 use lib.Dec.{eqb}
 use borrow.Author.Tests.{eq-eqb, ne_eqb, eqb-true, eqb-false}
-use Rattle.slash.specs.Answers.{Outcome, stop, done, ◌then◌, WhenDone, completion_outcome}
+use Rattle.slash.specs.Answers.{Outcome, stop, done, WhenDone, completion_outcome}
 use Rattle.slash.specs.Steps.{or_zero}
 use Rattle.slash.specs.Formats.{known, is_fixed}
 use Rattle.slash.specs.Reading.{check_word}
 use Rattle.slash.specs.declared.answer.Stop.{Stop}
 use Rattle.slash.specs.declared.answer.Completion.{Completion}
-use Rattle.slash.specs.declared.answer.Completion.TheVariants as Completion
 use Rattle.slash.specs.declared.format.Format.{Format}
 use Rattle.slash.proofs.AnswerLaws.{no_stop, done_inj, then_stop, zero_done}
 use Rattle.vectors.specs.Each.{at_place, each, vector_after, stop_only}

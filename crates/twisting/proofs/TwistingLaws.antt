@@ -13,7 +13,7 @@ use lib.Dec.{leb, eqb}
 use lib.Arith.{digits_lt}
 use lib.Pow.{pow_pos, pow-add, split, high, low, shr-shr}
 use borrow.Author.Tests.{le-leb, lt-leb, eq-eqb, ne_eqb, eqb-true, eqb-false}
-use Rattle.slash.specs.Answers.{Outcome, stop, done, ◌then◌}
+use Rattle.slash.specs.Answers.{Outcome, stop, done}
 use Rattle.slash.specs.Bits.{least_from, least_power, bits, bit}
 use Rattle.slash.specs.Formats.{is_fixed, known, k_fits, check_format, slash_bits, width_of, format_of}
 use Rattle.slash.specs.Reading.{slash_position, slash_undefined, floating_fraction, floating_number, number_of, is_above, check_word}

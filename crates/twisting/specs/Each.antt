@@ -1,6 +1,6 @@
 -- The vector forms: one of the two ways at each place of a lent vector.
 use Rattle.std.specs.Prelude.{ℕ, not, List}
-use Rattle.convergents.specs.Choice.{if◌then◌else◌}
+use Rattle.std.specs.Prelude.{if◌then◌else◌}
 use Rattle.slash.specs.Answers.{Outcome, stop, ◌then◌}
 use Rattle.slash.specs.declared.format.Format.{Format}
 use Rattle.vectors.specs.Each.{each}

@@ -1,13 +1,12 @@
 -- For the code and the proofs alone: the bits turned by halves, the way that the code goes, its test of a vector's words, and a term of the laws.
 use Rattle.std.specs.Prelude.{ℕ, zero, suc, ◌+◌, ◌-◌, ◌*◌, ◌/◌, ◌%◌, ◌^◌, ◌≤◌, ◌<◌, false, List, ◌≡◌, eqb, length, get_or}
-use Rattle.convergents.specs.Choice.{if◌then◌else◌}
+use Rattle.std.specs.Prelude.{if◌then◌else◌}
 use Rattle.slash.specs.Formats.{slash_bits}
 use Rattle.slash.specs.Reading.{slash_undefined}
 use Rattle.slash.specs.declared.number.Value.{Value}
 use Rattle.slash.specs.declared.number.Value.TheVariants.{Fraction, Zero, Infinity, NotANumber}
 use Rattle.twisting.specs.Twisting.{turned, twisted_field, untwisted_field}
 use Rattle.twisting.specs.declared.twisting.Way.{Way}
-use Rattle.twisting.specs.declared.twisting.Way.TheVariants as Way
 
 -- ---- bits turned by halves
 

@@ -1,6 +1,6 @@
 -- Twisted storage: 004's rearranged floating word, whose numerator stands at the right.
 use Rattle.std.specs.Prelude.{ℕ, zero, suc, ◌+◌, ◌-◌, ◌*◌, ◌/◌, ◌%◌, ◌^◌, leb}
-use Rattle.convergents.specs.Choice.{if◌then◌else◌}
+use Rattle.std.specs.Prelude.{if◌then◌else◌}
 use Rattle.slash.specs.Answers.{Outcome, stop, done, ◌then◌}
 use Rattle.slash.specs.Bits.{bits}
 use Rattle.slash.specs.Formats.{is_fixed, check_format}

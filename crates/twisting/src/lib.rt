@@ -1,5 +1,8 @@
 // Twisted storage: a floating word rearranged so that its numerator stands at the right, and the way
 // back, of one word and at each place of a vector.
+
+#![tactic(auto)]
+
 mod each;
 mod turning;
 mod twisting;

@@ -15,7 +15,6 @@ use Rattle.vectors.specs.Each.{each, vector_after, stop_only, EachPlace}
 use Rattle.vectors.specs.Places.{same_length}
 use Rattle.vectors.specs.Checks.{checked_words}
 use Rattle.slash.specs.declared.answer.Completion.{Completion}
-use Rattle.slash.specs.declared.answer.Completion.TheVariants as Completion
 use Rattle.slash.proofs.AnswerLaws.{then_stop}
 use Rattle.slash.proofs.FormatLaws.{format_good}
 use Rattle.vectors.proofs.EachLaws.{each_stopped, each_done}

@@ -19,7 +19,7 @@ use lib.Signed.{lt_z}
 use mir.Syntax.{w64}
 use mir.Val.{Fits, SFits}
 use borrow.Author.Tests.{eqb-true, eq-eqb, ne_eqb, lt-leb}
-use Rattle.convergents.specs.Choice.{if◌then◌else◌}
+use Rattle.std.specs.Prelude.{if◌then◌else◌}
 use Rattle.convergents.specs.Rounding.{round}
 use Rattle.slash.specs.Answers.{Outcome, stop, done, ◌then◌, answer_outcome, WhenDone}
 use Rattle.slash.specs.Steps.{or_zero, SmallParts, HeldParts, HeldValue}
@@ -41,7 +41,6 @@ use Rattle.slash.proofs.CanonicalLaws.{held_small, read_known, read_held, writte
 use Rattle.slash.proofs.WordLaws.{written_value, RoundedTo, changed, marks, word_value, word_rounded, word_mark, word_exact, word_sign}
 use Rattle.slash.specs.declared.answer.Stop.{Stop}
 use Rattle.slash.specs.declared.answer.Answer.{Answer}
-use Rattle.slash.specs.declared.answer.Answer.TheVariants as Answer
 use Rattle.slash.specs.declared.format.Format.{Format}
 use Rattle.slash.specs.declared.number.Parts.{Parts}
 use Rattle.slash.specs.declared.number.Value.{Value}

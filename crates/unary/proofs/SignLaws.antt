@@ -10,7 +10,7 @@ use lib.Dec.{leb, eqb}
 use lib.Arith.{digits_lt}
 use lib.Pow.{pow_pos, pow_mono, high, low, field, mod-mod-pow}
 use borrow.Author.Tests.{le-leb, lt-leb}
-use Rattle.convergents.specs.Choice.{if◌then◌else◌}
+use Rattle.std.specs.Prelude.{if◌then◌else◌}
 use Rattle.slash.specs.Answers.{Outcome, done, WhenDone}
 use Rattle.slash.specs.Bits.{bits, bit, bit_of}
 use Rattle.slash.specs.Formats.{known, slash_bits, width_of}

@@ -1,6 +1,6 @@
 -- The vector form: a code at each place of a lent vector.
 use Rattle.std.specs.Prelude.{ℕ, ◌≤◌, not, List}
-use Rattle.convergents.specs.Choice.{if◌then◌else◌}
+use Rattle.std.specs.Prelude.{if◌then◌else◌}
 use Rattle.slash.specs.Answers.{Outcome, stop}
 use Rattle.slash.specs.Formats.{when_known}
 use Rattle.slash.specs.Reading.{number_of}

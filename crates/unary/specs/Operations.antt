@@ -1,6 +1,6 @@
 -- The unary operations, codes 1 to 7.
 use Rattle.std.specs.Prelude.{ℕ, Bool, not, ◌&&◌, false, eqb, leb, ℤ, nat_abs}
-use Rattle.convergents.specs.Choice.{if◌then◌else◌}
+use Rattle.std.specs.Prelude.{if◌then◌else◌}
 use Rattle.slash.specs.Answers.{Outcome, stop, done, ◌then◌}
 use Rattle.slash.specs.Formats.{when_known}
 use Rattle.slash.specs.Numbers.{signed_of, is_nan}

@@ -1,4 +1,7 @@
 // The unary operations, on one word and at each place of a vector.
+
+#![tactic(auto)]
+
 mod each;
 mod floor;
 mod operation;

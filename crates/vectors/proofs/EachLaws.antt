@@ -18,7 +18,6 @@ use Rattle.vectors.specs.Places.{operands, places}
 use Rattle.vectors.specs.Checks.{checks}
 use Rattle.vectors.specs.Steps.{Storing}
 use Rattle.slash.specs.declared.answer.Completion.{Completion}
-use Rattle.slash.specs.declared.answer.Completion.TheVariants as Completion
 
 -- ---- the operands at place i and after
 

@@ -1,6 +1,6 @@
 -- The words of vectors checked.
 use Rattle.std.specs.Prelude.{ℕ, suc, not, List, [], ◌∷◌}
-use Rattle.convergents.specs.Choice.{if◌then◌else◌}
+use Rattle.std.specs.Prelude.{if◌then◌else◌}
 use Rattle.slash.specs.Answers.{Outcome, stop, done, ◌then◌}
 use Rattle.slash.specs.Formats.{when_known}
 use Rattle.slash.specs.Reading.{check_word}

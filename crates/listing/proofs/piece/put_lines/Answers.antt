@@ -1,0 +1,50 @@
+use Rattle.listing.proofs.StepLaws.{piecing_start, piecing_long, piecing_closed, piecing_stopped, piecing_used, piecing_again, piecing_open}
+use Rattle.listing.proofs.NightLaws.{real_night}
+use native.Mathlib.Omega.{arith}
+use mathlib.Core.Path.{◌∙◌, sym}
+use Rattle.listing.proofs.piece.put_lines.Goals as goal
+
+pub loop-entry-init : goal.loop-entry-init
+loop-entry-init c = piecing_start _ _ _ _ c.requires
+
+pub slice_bounds-is_sure-count : goal.slice_bounds-is_sure-count
+slice_bounds-is_sure-count c = omega (arith, c.loop-entry.invariant.within)
+
+pub slice_bounds-is_sure-start : goal.slice_bounds-is_sure-start
+slice_bounds-is_sure-start c = omega (arith, c.loop-entry.invariant.within)
+
+pub overflow_sub-out : goal.overflow_sub-out
+overflow_sub-out c = omega (arith, piecing_long c.loop-entry.invariant, c.loop-entry.invariant.fits)
+
+pub slice_bounds-next_breath-count : goal.slice_bounds-next_breath-count
+slice_bounds-next_breath-count c = omega (arith, c.loop-entry.invariant.within)
+
+pub slice_bounds-next_breath-start : goal.slice_bounds-next_breath-start
+slice_bounds-next_breath-start c = omega (arith, c.loop-entry.invariant.within)
+
+pub with_line-next-requires : goal.with_line-next-requires
+with_line-next-requires c = real_night _ c.loop-entry.invariant.real
+
+pub overflow_add-from : goal.overflow_add-from
+overflow_add-from c = omega (arith, c.well_formed.1.0, (piecing_used c.loop-entry.invariant (sym c.is_sure.ensures ∙ c.loop-entry-test.true) _ c.next_breath.ensures _ c.in-Breath.is).1)
+
+pub loop-entry-smaller : goal.loop-entry-smaller
+loop-entry-smaller c = omega (arith, piecing_used c.loop-entry.invariant (sym c.is_sure.ensures ∙ c.loop-entry-test.true) _ c.next_breath.ensures _ c.in-Breath.is)
+
+pub loop-entry-preserved : goal.loop-entry-preserved
+loop-entry-preserved c = piecing_again c.loop-entry.invariant (sym c.is_sure.ensures ∙ c.loop-entry-test.true) _ c.next_breath.ensures _ c.in-Breath.is _ c.ratio.ensures.defined _ c.with_line-next.ensures c.put_line-at.ensures
+
+pub returns-in-End : goal.returns-in-End
+returns-in-End c =
+    let both = (piecing_closed c.loop-entry.invariant (sym c.is_sure.ensures ∙ c.loop-entry-test.true) _ c.next_breath.ensures c.in-End.is _ c.ratio-in-End.ensures.defined c.put_line-length.ensures) in
+    record { answered = both.0; stored = both.1 }
+
+pub returns-in-Stopped : goal.returns-in-Stopped
+returns-in-Stopped c =
+    let both = (piecing_stopped c.loop-entry.invariant (sym c.is_sure.ensures ∙ c.loop-entry-test.true) _ c.next_breath.ensures _ c.in-Stopped.is _ c.left_to_next.ensures) in
+    record { answered = both.0; stored = both.1 }
+
+pub returns : goal.returns
+returns c =
+    let both = (piecing_open c.loop-entry.invariant (sym c.is_sure.ensures ∙ c.loop-entry-test.false)) in
+    record { answered = both.0; stored = both.1 }

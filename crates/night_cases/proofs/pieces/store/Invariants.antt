@@ -1,0 +1,10 @@
+use Rattle.listing.specs.Nights.{is_night}
+use Rattle.std.proofs.Common.{◌≡◌, ◌≤◌, true, length}
+use Rattle.night_cases.proofs.pieces.store.Given as goal
+
+abbrev pub invariant-loop-left : goal.invariant-loop-left
+invariant-loop-left l =
+    (l.from ≤ l.end) × (l.end ≤ length l.bytes) × (l.at ≤ length l.out) × (is_night l.night ≡ true) × (length l.out ≡ length l.initial.out)
+
+abbrev pub decreases-loop-left : goal.decreases-loop-left
+decreases-loop-left l = l.left

@@ -1,0 +1,14 @@
+use Rattle.slash.proofs.FieldLaws.{floating_fields_lem}
+use Rattle.slash.proofs.FormatLaws.{slash_bits_le}
+use Prim.Native.Nat.{ℕ, ◌^◌, ◌<◌}
+use mathlib.Core.Path.{sym, subst}
+use native.Mathlib.Omega.{arith}
+use Rattle.slash.proofs.floating.from_fields.Goals as goal
+
+pub pack-requires : goal.pack-requires
+pack-requires c =
+    let pre = c.requires in
+    (omega (arith, c.slash_bits.ensures, slash_bits_le _ pre.1), pre.2, pre.3, subst (λ (l : ℕ). c.args.e < 2 ^ l) (sym c.slash_bits.ensures) pre.4, pre.5)
+
+pub returns : goal.returns
+returns c = floating_fields_lem _ _ _ _ _ _ _ c.slash_bits.ensures c.pack.ensures

@@ -1,0 +1,60 @@
+use Rattle.listing.proofs.NightLaws.{begun_night, night_lines}
+use Rattle.listing.proofs.StepLaws.{piece_answer, piece_stops, piece_goes_on}
+use Rattle.stream.proofs.InputLaws.{turn_listed, turn_read, listed_on, waits_on}
+use Rattle.stream.proofs.RunLaws.{refused_tells}
+use native.Mathlib.Omega.{arith}
+use lib.Seq.{length-take-le}
+use mathlib.Core.Path.{sym, ◌∙◌}
+use borrow.Author.Rules.{rules}
+use Rattle.stream.proofs.run.list.Goals as goal
+
+pub loop-bytes-init : goal.loop-bytes-init
+loop-bytes-init g c = (c.input_buffer-bytes.ensures, c.output_buffer-text.ensures, omega (arith, c.input_buffer-bytes.ensures), begun_night)
+
+pub slice_bounds-bytes-end : goal.slice_bounds-bytes-end
+slice_bounds-bytes-end g c = c.loop-bytes.invariant.2
+
+pub slice_bounds-list_piece-end : goal.slice_bounds-list_piece-end
+slice_bounds-list_piece-end g c = sym (length-take-le c.loop-bytes.filled c.loop-bytes.bytes c.loop-bytes.invariant.2)
+
+pub slice_bounds-text-end : goal.slice_bounds-text-end
+slice_bounds-text-end g c = (piece_answer _ _ _ c.loop-bytes.text _ _ c.loop-bytes.invariant.3 (c.list_piece-piece.ensures.answered, c.list_piece-piece.ensures.stored)).1
+
+pub slice_bounds-write_all-end : goal.slice_bounds-write_all-end
+slice_bounds-write_all-end g c = sym (length-take-le _ _ (piece_answer _ _ _ c.loop-bytes.text _ _ c.loop-bytes.invariant.3 (c.list_piece-piece.ensures.answered, c.list_piece-piece.ensures.stored)).1)
+
+pub returns-in-Refused : goal.returns-in-Refused
+returns-in-Refused g c =
+    refused_tells c.list_piece-piece.result.night (piece_answer _ _ _ c.loop-bytes.text _ _ c.loop-bytes.invariant.3 (c.list_piece-piece.ensures.answered, c.list_piece-piece.ensures.stored)).2
+    c.list_piece-piece.result.end (piece_stops _ _ _ c.loop-bytes.text _ _ c.loop-bytes.invariant.3 (c.list_piece-piece.ensures.answered, c.list_piece-piece.ensures.stored))
+    _ c.in-Refused.is c.refuse.result c.refuse.ensures
+
+pub move_to_front-filled-requires : goal.move_to_front-filled-requires
+move_to_front-filled-requires g c = (omega (arith, (piece_answer _ _ _ c.loop-bytes.text _ _ c.loop-bytes.invariant.3 (c.list_piece-piece.ensures.answered, c.list_piece-piece.ensures.stored)).0, length-take-le c.loop-bytes.filled c.loop-bytes.bytes c.loop-bytes.invariant.2), c.loop-bytes.invariant.2)
+
+pub loop-bytes-smaller-then-used-gt0 : goal.loop-bytes-smaller-then-used-gt0
+loop-bytes-smaller-then-used-gt0 g c =
+    let answer = piece_answer _ _ _ c.loop-bytes.text _ _ c.loop-bytes.invariant.3 (c.list_piece-piece.ensures.answered, c.list_piece-piece.ensures.stored) in
+    let goes = piece_goes_on _ _ _ c.loop-bytes.text _ _ c.loop-bytes.invariant.3 (c.list_piece-piece.ensures.answered, c.list_piece-piece.ensures.stored) (omega (arith, c.loop-bytes.invariant.1)) c.in-Open.is in
+    turn_listed _ _ _ _ _ (listed_on _ _ _ _ _ goes (omega (arith, c.if-used-gt0.true))) (night_lines _ answer.2).1
+
+pub loop-bytes-preserved-then-used-gt0 : goal.loop-bytes-preserved-then-used-gt0
+loop-bytes-preserved-then-used-gt0 g c =
+    let answer = piece_answer _ _ _ c.loop-bytes.text _ _ c.loop-bytes.invariant.3 (c.list_piece-piece.ensures.answered, c.list_piece-piece.ensures.stored) in
+    (search rules, search rules, omega (arith, c.move_to_front-filled.ensures.counted, c.loop-bytes.invariant.2), answer.2)
+
+pub read_more-input-requires : goal.read_more-input-requires
+read_more-input-requires g c =
+    let goes = piece_goes_on _ _ _ c.loop-bytes.text _ _ c.loop-bytes.invariant.3 (c.list_piece-piece.ensures.answered, c.list_piece-piece.ensures.stored) (omega (arith, c.loop-bytes.invariant.1)) c.in-Open.is in
+    let waits = waits_on _ _ _ _ _ goes (omega (arith, c.if-used-gt0.false)) in
+    let long = length-take-le c.loop-bytes.filled c.loop-bytes.bytes c.loop-bytes.invariant.2 in
+    (omega (arith, waits.1, long, c.loop-bytes.invariant.0), waits.2 ∙ long)
+
+pub loop-bytes-smaller : goal.loop-bytes-smaller
+loop-bytes-smaller g c =
+    let goes = piece_goes_on _ _ _ c.loop-bytes.text _ _ c.loop-bytes.invariant.3 (c.list_piece-piece.ensures.answered, c.list_piece-piece.ensures.stored) (omega (arith, c.loop-bytes.invariant.1)) c.in-Open.is in
+    let waits = waits_on _ _ _ _ _ goes (omega (arith, c.if-used-gt0.false)) in
+    turn_read _ _ _ _ _ waits.0 (omega (arith, waits.1, length-take-le c.loop-bytes.filled c.loop-bytes.bytes c.loop-bytes.invariant.2)) c.read_more-input.ensures.grown
+
+pub loop-bytes-preserved : goal.loop-bytes-preserved
+loop-bytes-preserved g c = (search rules, search rules, c.read_more-input.ensures.counted.0, c.loop-bytes.invariant.3)
