@@ -32,7 +32,7 @@
  *   Every pointer is aligned and not null, and points to as many numbers as the length after it says; a pointer
  *   without a length points to one number or one struct (a listing to SLASH_LISTING_BYTES bytes). Only where a
  *   length is 0 may its pointer be null: nothing is read or written through it then (run in the compiled archive,
- *   not proved: the language has no null). What a call may write through one pointer is reached
+ *   not proved: the language's references are never null). What a call may write through one pointer is reached
  *   through no other pointer of that call: results don't overlap operands, so that no vector is its own result.
  *   Nothing else writes there meanwhile.
  *

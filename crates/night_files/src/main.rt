@@ -7,6 +7,7 @@
 ghost use Rattle.std.specs.Prelude.{◌≡◌, length};
 
 use slash::Stop;
+use std::env::FillError;
 use std::io::{Read, Write};
 use std::rt::Env;
 use std::{fs, io};
@@ -19,20 +20,6 @@ struct Unreadable;
 impl Read for Unreadable {
     fn read(&mut self, _buf: &mut [u8]) -> io::Result<usize> {
         Err(io::Error::from(io::ErrorKind::NotFound))
-    }
-}
-
-// Where nothing can be written.
-#[derive(Drop)]
-struct Nowhere;
-
-impl Write for Nowhere {
-    fn write(&mut self, _buf: &[u8]) -> io::Result<usize> {
-        Err(io::Error::from(io::ErrorKind::BrokenPipe))
-    }
-
-    fn flush(&mut self) -> io::Result<()> {
-        Ok(())
     }
 }
 
@@ -94,8 +81,11 @@ fn list_file<W: Write>(rt: &HostRuntime, name: &[u8], to: &mut W) {
 fn list_files<W: Write>(rt: &HostRuntime, to: &mut W) {
     let mut name = [0u8; 4096];
     for i in 1..usize::MAX {
-        let Ok(n) = rt.arg(i, &mut name) else {
-            return;
+        let n = match rt.arg(i, &mut name) {
+            Ok(n) => n,
+            // Shown without its name, and unread.
+            Err(FillError::TooLong) => 0,
+            Err(FillError::NotPresent) => return,
         };
         list_file(rt, &name[..n], to);
     }
@@ -103,5 +93,9 @@ fn list_files<W: Write>(rt: &HostRuntime, to: &mut W) {
 
 fn main(rt: HostRuntime) {
     list_files(&rt, &mut rt.stdout());
-    list_files(&rt, &mut Nowhere);
+    // A folder, open for reading: nothing can be written there.
+    let Ok(mut nowhere) = fs::open(&rt, ".") else {
+        return;
+    };
+    list_files(&rt, &mut nowhere);
 }

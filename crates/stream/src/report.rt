@@ -19,7 +19,9 @@ fn meaning(number: u64) -> &'static [u8] {
 }
 
 fn report_stop<E: Write>(errors: &mut E, stop: Stop) {
-    let _ = write!(errors, "night: line {}: ", stop.place);
+    let _ = errors.write_all(b"night: line ");
+    let _ = write!(errors, "{}", stop.place);
+    let _ = errors.write_all(b": ");
     let _ = errors.write_all(meaning(stop.number));
 }
 
