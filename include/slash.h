@@ -43,7 +43,7 @@
  *   same time as any other, as long as they write to different memory. Each returns, whatever it is given (proved).
  *   slash_night, slash_night_piece and slash_load take time in proportion to their bytes, slash_timings to its
  *   records, a vector function to its places; any other call takes some 5 to 80 ns on a desktop machine, by its
- *   words (bench/RESULTS.md). No call takes more stack than SLASH_STACK_BYTES, and the archive has about 29 KB of
+ *   words (bench/RESULTS.md). No call takes more stack than SLASH_STACK_BYTES, and the archive has about 30 KB of
  *   code and constants, with no memory that is written to (tests/stack/run measures both).
  *
  *   It is built for x86-64 as Linux calls functions there, and links into programs and shared objects alike. As any
