@@ -23,6 +23,20 @@ impl Read for Unreadable {
     }
 }
 
+// Where nothing can be written, and no descriptor is at hand.
+#[derive(Drop)]
+struct Nowhere;
+
+impl Write for Nowhere {
+    fn write(&mut self, _buf: &[u8]) -> io::Result<usize> {
+        Err(io::Error::from(io::ErrorKind::BrokenPipe))
+    }
+
+    fn flush(&mut self) -> io::Result<()> {
+        Ok(())
+    }
+}
+
 fn show(rt: &HostRuntime, text: &[u8]) {
     let _ = rt.stdout().write_all(text);
 }
@@ -93,9 +107,9 @@ fn list_files<W: Write>(rt: &HostRuntime, to: &mut W) {
 
 fn main(rt: HostRuntime) {
     list_files(&rt, &mut rt.stdout());
-    // A folder, open for reading: nothing can be written there.
-    let Ok(mut nowhere) = fs::open(&rt, ".") else {
-        return;
-    };
-    list_files(&rt, &mut nowhere);
+    // Nothing can be written to a folder that is open for reading.
+    match fs::open(&rt, ".") {
+        Ok(mut folder) => list_files(&rt, &mut folder),
+        Err(_) => list_files(&rt, &mut Nowhere),
+    }
 }
