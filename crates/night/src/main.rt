@@ -7,10 +7,14 @@ use std::env::FillError;
 use std::io::Write;
 use std::rt::Env;
 
-// Whether there is an argument behind the program's name.
-fn has_argument<R: Env>(rt: &R) -> bool {
-    let mut first = [0u8; 1];
-    !matches!(rt.arg(1, &mut first), Err(FillError::NotPresent))
+// Whether the program was started with an argument.
+fn has_argument(rt: &HostRuntime) -> bool {
+    // Only that it is there is asked: one that has no room is there too.
+    match rt.arg(1, &mut [0u8; 1]) {
+        Ok(_) => true,
+        Err(FillError::TooLong) => true,
+        Err(FillError::NotPresent) => false,
+    }
 }
 
 fn main(rt: HostRuntime) {
