@@ -1,5 +1,6 @@
 // Reads an input piece by piece into a lent buffer, and tells its end from a read that failed.
-ghost use Rattle.std.specs.Prelude.{◌≡◌, false, ◌-◌, ◌≤◌, ◌<◌, length, take, drop};
+ghost use Rattle.std.specs.Prelude.{◌≡◌, true, false, ◌-◌, ◌≤◌, ◌<◌, length, take, drop};
+ghost use Rattle.std.specs.Io.KnownBytes.{Consumes, IsAtEnd};
 ghost use Rattle.io.specs.Counts.{IsPrefixLen};
 ghost use Rattle.text.specs.Scan.{length_before};
 ghost use Rattle.text.specs.Stores.{at_start};
@@ -23,6 +24,8 @@ pub(crate) fn read_more<R: Read>(from: &mut R, buffer: &mut [u8], filled: usize)
     ensures counted { IsPrefixLen result.filled buffer.new }
     ensures grown { (result.last ≡ false → filled < result.filled) × (filled ≤ result.filled) }
     ensures kept { take filled buffer.new ≡ take filled buffer.old }
+    ensures consumed { result.ok ≡ true → Consumes (R.remaining from.old) (R.remaining from.new) (drop filled (take result.filled buffer.new)) }
+    ensures ended { result.ok ≡ true → result.last ≡ true → IsAtEnd (R.remaining from.new) }
 {
     match from.read(&mut buffer[filled..]) {
         Ok(n) => Input {

@@ -1,4 +1,7 @@
 // How a run ended, said in words where errors go.
+ghost use Rattle.std.specs.Prelude.{◌≡◌};
+ghost use Rattle.stream.specs.declared.run.Run.{Run};
+
 use crate::run::Run;
 use slash::Stop;
 use std::io::Write;
@@ -26,7 +29,9 @@ fn report_stop<E: Write>(errors: &mut E, stop: Stop) {
 }
 
 // Nothing is said of a listing that is whole. What can't be said here is lost.
-pub(crate) fn report<E: Write>(run: Run, errors: &mut E) {
+pub(crate) fn report<E: Write>(run: Run, errors: &mut E)
+    ensures { run ≡ Run.Listed → errors.new ≡ errors.old }
+{
     match run {
         Run::Listed => {}
         Run::Refused(stop) => report_stop(errors, stop),

@@ -1,6 +1,9 @@
 // One run: a recording read to its end or its first bad line, its listing written.
-ghost use Rattle.std.specs.Prelude.{◌≡◌, ◌⊎◌, length};
-ghost use Rattle.stream.specs.Runs.{run_outcome, Tells};
+ghost use Rattle.std.specs.Prelude.{◌≡◌, ◌⊎◌, IfSome, length};
+ghost use Rattle.std.specs.Io.KnownBytes.{Appends};
+ghost use Rattle.listing.specs.Listing.{listing_of};
+ghost use Rattle.text.specs.Lines.{refused_line};
+ghost use Rattle.stream.specs.Runs.{Adds, run_outcome, Tells};
 
 use crate::input;
 use crate::report::report;
@@ -41,7 +44,8 @@ fn line_buffer() -> [u8; 50]
 
 // Writes the line of a stop.
 fn refuse<W: Write>(to: &mut W, stop: Stop) -> Run
-    ensures { (result ≡ Run.Refused stop) ⊎ (result ≡ Run.Unwritten) }
+    ensures ends { (result ≡ Run.Refused stop) ⊎ (result ≡ Run.Unwritten) }
+    ensures written { result ≡ Run.Refused stop → Appends (W.contents to.old) (W.contents to.new) (refused_line stop.number stop.place) }
 {
     let mut line = line_buffer();
     let length = text::refused_line(stop, &mut line);
@@ -54,8 +58,11 @@ fn refuse<W: Write>(to: &mut W, stop: Stop) -> Run
 // Reads a recording to its end or its first bad line, and writes its listing, each breath as soon as
 // its line feed has come. A turn that doesn't end it takes a line, or reads on where no line is whole,
 // so that it ends. (The night is the recording's at each turn, proved, so that it is never none.)
+// Where the reader tells its bytes and the writer its own, just the listing is added to these; what a
+// failed write leaves there is open, and so is what is left of the reader.
 pub fn list<R: Read, W: Write>(from: &mut R, to: &mut W) -> Run
-    ensures { Tells (run_outcome result) }
+    ensures told { Tells (run_outcome result) }
+    ensures written { IfSome (R.remaining from.old) (λ bytes. Adds result (listing_of bytes) (W.contents to.old) (W.contents to.new)) }
 {
     let mut bytes = input_buffer();
     let mut text = output_buffer();
@@ -98,7 +105,9 @@ pub fn list<R: Read, W: Write>(from: &mut R, to: &mut W) -> Run
 
 // The same, and what was refused or is cut is said in words: what the program `night` does.
 pub fn night<R: Read, W: Write, E: Write>(from: &mut R, to: &mut W, errors: &mut E) -> Run
-    ensures { Tells (run_outcome result) }
+    ensures told { Tells (run_outcome result) }
+    ensures written { IfSome (R.remaining from.old) (λ bytes. Adds result (listing_of bytes) (W.contents to.old) (W.contents to.new)) }
+    ensures silent { result ≡ Run.Listed → errors.new ≡ errors.old }
 {
     let run = list(from, to);
     report(run, errors);

@@ -6,10 +6,12 @@ use native.Mathlib.Omega.{arith}
 use lib.Seq.{length-take-le}
 use mathlib.Core.Path.{sym, ◌∙◌}
 use borrow.Author.Rules.{rules}
+use Rattle.stream.proofs.WrittenLaws.{begun, turn_moved, turn_waits, turn_closed, turn_refused, turn_part, adds_refused, where_known}
+use borrow.Author.Tests.{not-false}
 use Rattle.stream.proofs.run.list.Goals as goal
 
 pub loop-bytes-init : goal.loop-bytes-init
-loop-bytes-init g c = (c.input_buffer-bytes.ensures, c.output_buffer-text.ensures, omega (arith, c.input_buffer-bytes.ensures), begun_night)
+loop-bytes-init g c = (c.input_buffer-bytes.ensures, c.output_buffer-text.ensures, omega (arith, c.input_buffer-bytes.ensures), begun_night, λ all e. begun all _ _ e)
 
 pub slice_bounds-bytes-end : goal.slice_bounds-bytes-end
 slice_bounds-bytes-end g c = c.loop-bytes.invariant.2
@@ -23,11 +25,11 @@ slice_bounds-text-end g c = (piece_answer _ _ _ c.loop-bytes.text _ _ c.loop-byt
 pub slice_bounds-write_all-end : goal.slice_bounds-write_all-end
 slice_bounds-write_all-end g c = sym (length-take-le _ _ (piece_answer _ _ _ c.loop-bytes.text _ _ c.loop-bytes.invariant.3 (c.list_piece-piece.ensures.answered, c.list_piece-piece.ensures.stored)).1)
 
-pub returns-in-Refused : goal.returns-in-Refused
-returns-in-Refused g c =
+pub returns-in-Refused-clause-told : goal.returns-in-Refused-clause-told
+returns-in-Refused-clause-told g c =
     refused_tells c.list_piece-piece.result.night (piece_answer _ _ _ c.loop-bytes.text _ _ c.loop-bytes.invariant.3 (c.list_piece-piece.ensures.answered, c.list_piece-piece.ensures.stored)).2
     c.list_piece-piece.result.end (piece_stops _ _ _ c.loop-bytes.text _ _ c.loop-bytes.invariant.3 (c.list_piece-piece.ensures.answered, c.list_piece-piece.ensures.stored))
-    _ c.in-Refused.is c.refuse.result c.refuse.ensures
+    _ c.in-Refused.is c.refuse.result c.refuse.ensures.ends
 
 pub move_to_front-filled-requires : goal.move_to_front-filled-requires
 move_to_front-filled-requires g c = (omega (arith, (piece_answer _ _ _ c.loop-bytes.text _ _ c.loop-bytes.invariant.3 (c.list_piece-piece.ensures.answered, c.list_piece-piece.ensures.stored)).0, length-take-le c.loop-bytes.filled c.loop-bytes.bytes c.loop-bytes.invariant.2), c.loop-bytes.invariant.2)
@@ -40,8 +42,20 @@ loop-bytes-smaller-then-used-gt0 g c =
 
 pub loop-bytes-preserved-then-used-gt0 : goal.loop-bytes-preserved-then-used-gt0
 loop-bytes-preserved-then-used-gt0 g c =
-    let answer = piece_answer _ _ _ c.loop-bytes.text _ _ c.loop-bytes.invariant.3 (c.list_piece-piece.ensures.answered, c.list_piece-piece.ensures.stored) in
-    (search rules, search rules, omega (arith, c.move_to_front-filled.ensures.counted, c.loop-bytes.invariant.2), answer.2)
+    let answer = piece_answer _ _ _ c.loop-bytes.text _ _ c.loop-bytes.invariant.3 (c.list_piece-piece.ensures.answered, c.list_piece-piece.ensures.stored) in (
+      search rules,
+      search rules,
+      omega (arith, c.move_to_front-filled.ensures.counted, c.loop-bytes.invariant.2),
+      answer.2,
+      λ all e. turn_moved
+          all (g.W.Write.contents c.args.to.now) (g.R.Read.remaining c.loop-bytes.from) (g.W.Write.contents c.loop-bytes.to)
+          c.loop-bytes.night c.loop-bytes.bytes c.loop-bytes.text c.loop-bytes.filled c.loop-bytes.last
+          (c.loop-bytes.invariant.4 all e) c.loop-bytes.invariant.3 c.list_piece-piece.result c.list_piece-piece.new.out
+          c.list_piece-piece.ensures.answered c.list_piece-piece.ensures.stored c.list_piece-piece.ensures.listing
+          (g.W.Write.contents c.write_all.new.self) c.write_all.result (sym c.is_err.ensures.value ∙ c.if-is_err.false) c.write_all.ensures.bytes
+          c.in-Open.is (omega (arith, answer.0, length-take-le c.loop-bytes.filled c.loop-bytes.bytes c.loop-bytes.invariant.2)) c.loop-bytes.invariant.2
+          _ _ c.move_to_front-filled.ensures.counted c.move_to_front-filled.ensures.moved,
+    )
 
 pub read_more-input-requires : goal.read_more-input-requires
 read_more-input-requires g c =
@@ -57,4 +71,52 @@ loop-bytes-smaller g c =
     turn_read _ _ _ _ _ waits.0 (omega (arith, waits.1, length-take-le c.loop-bytes.filled c.loop-bytes.bytes c.loop-bytes.invariant.2)) c.read_more-input.ensures.grown
 
 pub loop-bytes-preserved : goal.loop-bytes-preserved
-loop-bytes-preserved g c = (search rules, search rules, c.read_more-input.ensures.counted.0, c.loop-bytes.invariant.3)
+loop-bytes-preserved g c = (
+  search rules,
+  search rules,
+  c.read_more-input.ensures.counted.0,
+  c.loop-bytes.invariant.3,
+  λ all e. turn_waits
+      all (g.W.Write.contents c.args.to.now) (g.R.Read.remaining c.loop-bytes.from) (g.W.Write.contents c.loop-bytes.to)
+      c.loop-bytes.night c.loop-bytes.bytes c.loop-bytes.text c.loop-bytes.filled c.loop-bytes.last
+      (c.loop-bytes.invariant.4 all e) c.loop-bytes.invariant.3 c.list_piece-piece.result c.list_piece-piece.new.out
+      c.list_piece-piece.ensures.answered c.list_piece-piece.ensures.stored c.list_piece-piece.ensures.listing
+      (g.W.Write.contents c.write_all.new.self) c.write_all.result (sym c.is_err.ensures.value ∙ c.if-is_err.false) c.write_all.ensures.bytes
+      c.list_piece-piece.ensures.best c.in-Open.is (omega (arith, c.if-used-gt0.false)) c.loop-bytes.invariant.2
+      _ _ _ _ (c.read_more-input.ensures.consumed (not-false _ c.if-not-input.false)) (c.read_more-input.ensures.ended (not-false _ c.if-not-input.false))
+      c.read_more-input.ensures.grown.1 c.read_more-input.ensures.counted.0 c.read_more-input.ensures.kept,
+)
+
+pub returns-in-Closed-clause-written : goal.returns-in-Closed-clause-written
+returns-in-Closed-clause-written g c = where_known _ _ (λ all e. turn_closed
+    all (g.W.Write.contents c.args.to.now) (g.R.Read.remaining c.loop-bytes.from) (g.W.Write.contents c.loop-bytes.to)
+    c.loop-bytes.night c.loop-bytes.bytes c.loop-bytes.text c.loop-bytes.filled c.loop-bytes.last
+    (c.loop-bytes.invariant.4 all e) c.loop-bytes.invariant.3 c.list_piece-piece.result c.list_piece-piece.new.out
+    c.list_piece-piece.ensures.answered c.list_piece-piece.ensures.stored c.list_piece-piece.ensures.listing
+    (g.W.Write.contents c.write_all.new.self) c.write_all.result (sym c.is_err.ensures.value ∙ c.if-is_err.false) c.write_all.ensures.bytes
+    c.in-Closed.is)
+
+pub returns-in-NoNight-clause-written : goal.returns-in-NoNight-clause-written
+returns-in-NoNight-clause-written g c = where_known _ _ (λ all e. turn_part
+    all (g.W.Write.contents c.args.to.now) (g.R.Read.remaining c.loop-bytes.from) (g.W.Write.contents c.loop-bytes.to)
+    c.loop-bytes.night c.loop-bytes.bytes c.loop-bytes.text c.loop-bytes.filled c.loop-bytes.last
+    (c.loop-bytes.invariant.4 all e) c.loop-bytes.invariant.3 c.list_piece-piece.result c.list_piece-piece.new.out
+    c.list_piece-piece.ensures.answered c.list_piece-piece.ensures.stored c.list_piece-piece.ensures.listing
+    (g.W.Write.contents c.write_all.new.self) c.write_all.result (sym c.is_err.ensures.value ∙ c.if-is_err.false) c.write_all.ensures.bytes)
+
+pub returns-in-Refused-clause-written : goal.returns-in-Refused-clause-written
+returns-in-Refused-clause-written g c = where_known _ _ (λ all e. adds_refused _ _ _ _ _ c.refuse.ensures.ends (λ said. turn_refused
+    all (g.W.Write.contents c.args.to.now) (g.R.Read.remaining c.loop-bytes.from) (g.W.Write.contents c.loop-bytes.to)
+    c.loop-bytes.night c.loop-bytes.bytes c.loop-bytes.text c.loop-bytes.filled c.loop-bytes.last
+    (c.loop-bytes.invariant.4 all e) c.loop-bytes.invariant.3 c.list_piece-piece.result c.list_piece-piece.new.out
+    c.list_piece-piece.ensures.answered c.list_piece-piece.ensures.stored c.list_piece-piece.ensures.listing
+    (g.W.Write.contents c.write_all.new.self) c.write_all.result (sym c.is_err.ensures.value ∙ c.if-is_err.false) c.write_all.ensures.bytes
+    _ c.in-Refused.is _ (c.refuse.ensures.written said)))
+
+pub returns-then-not-input-clause-written : goal.returns-then-not-input-clause-written
+returns-then-not-input-clause-written g c = where_known _ _ (λ all e. turn_part
+    all (g.W.Write.contents c.args.to.now) (g.R.Read.remaining c.loop-bytes.from) (g.W.Write.contents c.loop-bytes.to)
+    c.loop-bytes.night c.loop-bytes.bytes c.loop-bytes.text c.loop-bytes.filled c.loop-bytes.last
+    (c.loop-bytes.invariant.4 all e) c.loop-bytes.invariant.3 c.list_piece-piece.result c.list_piece-piece.new.out
+    c.list_piece-piece.ensures.answered c.list_piece-piece.ensures.stored c.list_piece-piece.ensures.listing
+    (g.W.Write.contents c.write_all.new.self) c.write_all.result (sym c.is_err.ensures.value ∙ c.if-is_err.false) c.write_all.ensures.bytes)
