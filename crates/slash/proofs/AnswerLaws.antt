@@ -9,58 +9,54 @@ use native.Mathlib.Omega.{arith}
 use lib.Dec.{eqb}
 use borrow.Author.Tests.{ne_eqb}
 use Rattle.std.specs.Prelude.{if◌then◌else◌}
-use Rattle.slash.specs.Answers.{Outcome, stop, done, ◌then◌, WhenDone, completion_outcome, written_outcome}
+use Rattle.std.specs.Prelude.{Ok, Err, IsErr, IsErrAnd}
+use Rattle.slash.specs.Answers.{Outcome, stop, done, ◌then◌, WhenDone}
 use Rattle.slash.specs.Steps.{or_zero}
 use Rattle.slash.specs.declared.answer.Stop.{Stop}
-use Rattle.slash.specs.declared.answer.Completion.{Completion}
-use Rattle.slash.specs.declared.answer.Written.{Written}
 
 -- a stop made by `Stop::plain`
-pub plain_stop : {A : Type 0} (s : Stop) (n : ℕ) {o : Outcome A} → s ≡ record { number = n; place = 0 } → stop n 0 ≡ o → stop s.number s.place ≡ o
-plain_stop s n e h = ap (λ (t : Stop). stop t.number t.place) e ∙ h
+pub plain_stop : {A : Type 0} (s : Stop) (n : ℕ) {o : Outcome A} → s ≡ record { number = n; place = 0 } → stop n 0 ≡ o → Err s ≡ o
+plain_stop s n e h = ap (λ (t : Stop). Err t) e ∙ h
+
+-- the stop that a call names
+abbrev stop_of : {A : Type 0} → Outcome A → Stop
+stop_of (Err s) = s
+stop_of (Ok x) = record { number = 0; place = 0 }
+
+pub stop_inj : {A : Type 0} {n p m q : ℕ} → ◌≡◌ {A = Outcome A} (stop n p) (stop m q) → (n ≡ m) × (p ≡ q)
+stop_inj e = (ap (λ (s : Stop). s.number) (ap stop_of e), ap (λ (s : Stop). s.place) (ap stop_of e))
 
 pub done_inj : {A : Type 0} {x y : A} → done x ≡ done y → x ≡ y
 done_inj e = cc
 
-pub no_stop : {A : Type 0} {n p : ℕ} {x : A} → stop n p ≡ done x → ⊥
+pub no_stop : {A : Type 0} {s : Stop} {x : A} → ◌≡◌ {A = Outcome A} (Err s) (Ok x) → ⊥
 no_stop e = let z : ◌≡◌ {A = ℕ} 0 1 = cc in omega arith
+
+-- what `?` hands on is the stop that it met
+pub passed_on : {A : Type 0} (r : Outcome A) {s : Stop} → IsErr r × IsErrAnd r (λ (t : Stop). t ≡ s) → r ≡ Err s
+passed_on (Ok x) h = absurd h.1
+passed_on (Err t) h = ap Err h.1
 
 -- what a step that stopped, or is done, comes to
 module _ {A B : Type 0} {o : Outcome A} (next : A → Outcome B) where
-  pub then_stop : {n p : ℕ} → stop n p ≡ o → stop n p ≡ (o then next)
-  then_stop {n} {p} e = ap (λ (q : Outcome A). q then next) e
+  pub then_stop : {s : Stop} → Err s ≡ o → Err s ≡ (o then next)
+  then_stop {s} e = ap (λ (q : Outcome A). q then next) e
 
   pub then_done : {x : A} {r : Outcome B} → done x ≡ o → r ≡ next x → r ≡ (o then next)
   then_done {x} {r} e h = h ∙ ap (λ (q : Outcome A). q then next) e
 
 -- and back, where the next step is always done
 module _ {A : Type 0} (x : A) where
-  pub then_stopped : {n p : ℕ} (o : Outcome (Unit {0})) → stop n p ≡ (o then λ _. done x) → stop n p ≡ o
-  then_stopped (stop n p) e = cc
-  then_stopped (done u) e = absurd (no_stop e)
+  pub then_stopped : {s : Stop} (o : Outcome (Unit {0})) → Err s ≡ (o then λ _. done x) → Err s ≡ o
+  then_stopped (Err t) e = cc
+  then_stopped (Ok u) e = absurd (no_stop e)
 
   pub then_made : {y : A} (o : Outcome (Unit {0})) → done y ≡ (o then λ _. done x) → o ≡ done tt
-  then_made (stop n p) e = absurd (no_stop (sym e))
-  then_made (done u) e = refl
-
--- what a call answered that makes nothing, by its case
-module _ {a : Completion} {o : Outcome (Unit {0})} (h : completion_outcome a ≡ o) where
-  pub completion_stop : {s : Stop} → a ≡ Completion.Stopped s → stop s.number s.place ≡ o
-  completion_stop e = sym (ap completion_outcome e) ∙ h
-
-  pub completion_done : a ≡ Completion.Done → done tt ≡ o
-  completion_done e = sym (ap completion_outcome e) ∙ h
-
--- what a call answered that makes a word
-module _ {a : Written} {o : Outcome ℕ} (h : written_outcome a ≡ o) where
-  pub written_stop : {s : Stop} → a ≡ Written.Stopped s → stop s.number s.place ≡ o
-  written_stop e = sym (ap written_outcome e) ∙ h
-
-  pub written_done : {w : ℕ} → a ≡ Written.Done w → done w ≡ o
-  written_done e = sym (ap written_outcome e) ∙ h
+  then_made (Err t) e = absurd (no_stop (sym e))
+  then_made (Ok u) e = refl
 
 -- the word of an outcome, or 0
-pub zero_stop : {n p : ℕ} {o : Outcome ℕ} → stop n p ≡ o → 0 ≡ or_zero o
+pub zero_stop : {s : Stop} {o : Outcome ℕ} → Err s ≡ o → 0 ≡ or_zero o
 unfolding or_zero
 zero_stop e = ap or_zero e
 
@@ -70,7 +66,7 @@ zero_done e = ap or_zero e
 
 -- a call o that is a check first, and then makes v
 module _ (c : Outcome (Unit {0})) (v : ℕ) {o : Outcome ℕ} (e : (c then λ _. done v) ≡ o) where
-  pub checked_stop : {n p : ℕ} → stop n p ≡ c → stop n p ≡ o
+  pub checked_stop : {s : Stop} → Err s ≡ c → Err s ≡ o
   checked_stop h = then_stop (λ _. done v) h ∙ e
 
   pub checked_made : {r : ℕ} → done tt ≡ c → r ≡ v → done r ≡ o
@@ -80,8 +76,8 @@ module _ (c : Outcome (Unit {0})) (v : ℕ) {o : Outcome ℕ} (e : (c then λ _.
   when_checked P good = subst (λ (q : Outcome ℕ). WhenDone q P) e (go c good)
     where
       go : (d : Outcome (Unit {0})) → (done tt ≡ d → P v) → WhenDone (d then λ _. done v) P
-      go (stop n p) g = tt
-      go (done u) g = g refl
+      go (Err s) g = tt
+      go (Ok u) g = g refl
 
 -- both of two tests
 pub and_parts : (a b : Bool) → (a && b) ≡ true → (a ≡ true) × (b ≡ true)

@@ -14,12 +14,13 @@ use borrow.Author.Tests.{leb-true, eqb-true, le-leb, eq-eqb, ne_eqb}
 use Rattle.convergents.specs.Pairs.{pair}
 use Rattle.convergents.specs.Rounding.{Limit, held}
 use Rattle.convergents.proofs.Optimal.{held_is}
-use Rattle.slash.specs.Answers.{stop, done, completion_outcome}
+use Rattle.std.specs.Prelude.{Ok, Err}
+use Rattle.slash.specs.declared.answer.Stop.{Stop}
+use Rattle.slash.specs.Answers.{Outcome, stop, done}
 use Rattle.slash.specs.Bits.{bit_count}
 use Rattle.slash.specs.Formats.{is_fixed, is_floating, k_fits, known, check_format, of_known, format_of, make_format, slash_bits, width_of, holds, largest_part}
-use Rattle.slash.specs.declared.answer.Completion.{Completion}
 use Rattle.slash.specs.declared.format.Format.{Format}
-use Rattle.slash.proofs.AnswerLaws.{no_stop, then_stop, completion_done, and_parts}
+use Rattle.slash.proofs.AnswerLaws.{no_stop, then_stop, and_parts}
 use Rattle.slash.proofs.BitLaws.{or_most, least_power_lem, least_count, bit_count_lt, bit_count_le, bit_count_pos, bit_count_mono}
 
 -- ---- the check of a format
@@ -41,8 +42,8 @@ module _ (f : Format) where
       go true h = h
       go false h = absurd (no_stop (format_refused h ∙ sym e))
 
-  pub completion_known : {a : Completion} → completion_outcome a ≡ check_format f → a ≡ Completion.Done → known f ≡ true
-  completion_known h e = good_known (completion_done h e)
+  pub check_known : {a : Outcome (Unit {0})} → a ≡ check_format f → a ≡ Ok tt → known f ≡ true
+  check_known h e = good_known (sym e ∙ h)
 
 -- and what it stops is stopped so
 module _ {A : Type 0} (f : Format) (x : A) where
@@ -50,7 +51,7 @@ module _ {A : Type 0} (f : Format) (x : A) where
   unfolding of_known
   of_known_lem h = rw (format_good f h) refl
 
-  pub of_refused : {n p : ℕ} → stop n p ≡ check_format f → stop n p ≡ of_known f x
+  pub of_refused : {s : Stop} → Err s ≡ check_format f → Err s ≡ of_known f x
   unfolding of_known
   of_refused e = then_stop (λ _. done x) e
 
@@ -59,7 +60,7 @@ module _ (kind k : ℕ) where
   unfolding make_format
   make_known h = of_known_lem _ _ h
 
-  pub make_refused : {n p : ℕ} → stop n p ≡ check_format (format_of kind k) → stop n p ≡ make_format kind k
+  pub make_refused : {s : Stop} → Err s ≡ check_format (format_of kind k) → Err s ≡ make_format kind k
   unfolding make_format
   make_refused e = of_refused _ _ e
 

@@ -10,8 +10,9 @@ use lib.Dec.{leb, eqb}
 use lib.Pow.{pow_pos, shr-shr}
 use borrow.Author.Tests.{le-leb, lt-leb, leb-true, leb-false, eq-eqb, ne_eqb}
 use Rattle.std.specs.Prelude.{if◌then◌else◌}
+use Rattle.std.specs.Prelude.{Ok, Err}
 use Rattle.slash.specs.Answers.{Outcome, stop, done, ◌then◌}
-use Rattle.slash.specs.Reading.{check_outcome, fixed_value, fixed_number, slash_position, slash_undefined, floating_fraction, floating_special, floating_number, number_of, is_above, check_word, good_word, checked_word, read_word, fields_of, number_in, fields_in, fixed_fields, floating_fields}
+use Rattle.slash.specs.Reading.{fixed_value, fixed_number, slash_position, slash_undefined, floating_fraction, floating_special, floating_number, number_of, is_above, check_word, good_word, checked_word, read_word, fields_of, number_in, fields_in, fixed_fields, floating_fields}
 use Rattle.slash.specs.Bits.{bits, bit}
 use Rattle.slash.specs.Formats.{is_fixed, k_fits, known, check_format, slash_bits, width_of}
 use Rattle.slash.specs.declared.answer.Stop.{Stop}
@@ -20,9 +21,8 @@ use Rattle.slash.specs.declared.format.Format.{Format}
 use Rattle.slash.specs.declared.number.Value.{Value}
 use Rattle.slash.specs.declared.number.Value.TheVariants.{Fraction, Zero, Infinity, NotANumber}
 use Rattle.slash.specs.declared.number.Number.{Number}
-use Rattle.slash.specs.declared.reading.Checked.{Checked}
 use Rattle.slash.specs.declared.reading.GoodWord.{GoodWord}
-use Rattle.slash.proofs.AnswerLaws.{done_inj, no_stop, then_stop, then_stopped, then_made}
+use Rattle.slash.proofs.AnswerLaws.{done_inj, stop_inj, no_stop, then_stop, then_stopped, then_made}
 use Rattle.slash.proofs.BitLaws.{pow_before}
 use Rattle.slash.proofs.FormatLaws.{format_good, good_known, known_fits}
 
@@ -167,7 +167,7 @@ check_by a b c =
 
 module _ (f : Format) (w : ℕ) where
   -- the answers of `check`
-  pub check_refused : {n p : ℕ} → stop n p ≡ check_format f → stop n p ≡ check_word f w
+  pub check_refused : {s : Stop} → Err s ≡ check_format f → Err s ≡ check_word f w
   unfolding check_word
   check_refused e = then_stop _ e
 
@@ -231,8 +231,8 @@ module _ (f : Format) (w : ℕ) where
     checked_known = go (check_format f) refl
       where
         go : (o : Outcome (Unit {0})) → check_format f ≡ o → known f ≡ true
-        go (done u) e = good_known f (sym e)
-        go (stop n p) e = absurd (no_stop (check_refused (sym e) ∙ c))
+        go (Ok u) e = good_known f (sym e)
+        go (Err t) e = absurd (no_stop (check_refused (sym e) ∙ c))
 
     -- it has no bit above its width
     pub checked_below : is_above (width_of f) w ≡ false
@@ -263,8 +263,8 @@ module _ (f : Format) (w : ℕ) where
   read_checked {x} r = go (check_word f w) refl
     where
       go : (o : Outcome (Unit {0})) → check_word f w ≡ o → check_word f w ≡ done tt
-      go (stop n p) e = absurd (no_stop (sym (ap (λ (q : Outcome (Unit {0})). q then λ _. done (number_of f w)) e) ∙ r))
-      go (done u) e = e
+      go (Err t) e = absurd (no_stop (sym (ap (λ (q : Outcome (Unit {0})). q then λ _. done (number_of f w)) e) ∙ r))
+      go (Ok u) e = e
 
   -- no other numbers than 1, 4 and 5 stop a word, and no place is told
   pub read_stops : {n p : ℕ} → read_word f w ≡ stop n p → ((n ≡ 1) ⊎ ((n ≡ 4) ⊎ (n ≡ 5))) × (p ≡ 0)
@@ -272,35 +272,35 @@ module _ (f : Format) (w : ℕ) where
   read_stops {n} {p} = go (known f) (is_above (width_of f) w) (not (is_fixed f) && slash_undefined f.k w)
     where
       go : (a b c : Bool) → (check_by a b c then λ _. done (number_of f w)) ≡ stop n p → ((n ≡ 1) ⊎ ((n ≡ 4) ⊎ (n ≡ 5))) × (p ≡ 0)
-      go false b c e = (inl cc, cc)
-      go true true c e = (inr (inl cc), cc)
-      go true false true e = (inr (inr cc), cc)
+      go false b c e = let s = stop_inj e in (inl (sym s.0), sym s.1)
+      go true true c e = let s = stop_inj e in (inr (inl (sym s.0)), sym s.1)
+      go true false true e = let s = stop_inj e in (inr (inr (sym s.0)), sym s.1)
       go true false false e = absurd (no_stop (sym e))
 
 -- what `check` answered, by its case: the word is read so
-module _ (f : Format) (w : ℕ) {r : Checked} (h : check_outcome r ≡ checked_word f w) where
-  pub check_stop : {s : Stop} → r ≡ Checked.Stopped s → stop s.number s.place ≡ check_word f w
-  check_stop e = then_stopped (good_word f w) (check_word f w) (sym (ap check_outcome e) ∙ h)
+module _ (f : Format) (w : ℕ) {r : Outcome GoodWord} (h : r ≡ checked_word f w) where
+  pub check_stop : {s : Stop} → r ≡ Err s → Err s ≡ check_word f w
+  check_stop e = then_stopped (good_word f w) (check_word f w) (sym e ∙ h)
 
-  pub check_stopped : {s : Stop} → r ≡ Checked.Stopped s → stop s.number s.place ≡ read_word f w
+  pub check_stopped : {s : Stop} → r ≡ Err s → Err s ≡ read_word f w
   unfolding read_word
   check_stopped e = then_stop (λ _. done (number_of f w)) (check_stop e)
 
-  pub check_good : {g : GoodWord} → r ≡ Checked.Good g → check_word f w ≡ done tt
-  check_good e = then_made (good_word f w) (check_word f w) (sym (ap check_outcome e) ∙ h)
+  pub check_good : {g : GoodWord} → r ≡ Ok g → check_word f w ≡ done tt
+  check_good e = then_made (good_word f w) (check_word f w) (sym e ∙ h)
 
   -- and it is the word that was checked
-  pub check_same : {g : GoodWord} → r ≡ Checked.Good g → g ≡ good_word f w
-  check_same e = done_inj (sym (ap check_outcome e) ∙ h ∙ ap (λ (o : Outcome (Unit {0})). o then λ _. done (good_word f w)) (check_good e))
+  pub check_same : {g : GoodWord} → r ≡ Ok g → g ≡ good_word f w
+  check_same e = done_inj (sym e ∙ h ∙ ap (λ (o : Outcome (Unit {0})). o then λ _. done (good_word f w)) (check_good e))
 
-  pub check_number : {g : GoodWord} → r ≡ Checked.Good g → number_in g.format g.word ≡ number_in f w
+  pub check_number : {g : GoodWord} → r ≡ Ok g → number_in g.format g.word ≡ number_in f w
   check_number e = ap (λ (x : GoodWord). number_in x.format x.word) (check_same e)
 
-  pub check_value : {g : GoodWord} → r ≡ Checked.Good g → {v : Value} → v ≡ (number_in g.format g.word).value → v ≡ (number_in f w).value
+  pub check_value : {g : GoodWord} → r ≡ Ok g → {v : Value} → v ≡ (number_in g.format g.word).value → v ≡ (number_in f w).value
   check_value e ve = ve ∙ ap (λ (x : Number). x.value) (check_number e)
 
-  pub check_mark : {g : GoodWord} → r ≡ Checked.Good g → {a : Bool} → a ≡ (number_in g.format g.word).approximate → a ≡ (number_in f w).approximate
+  pub check_mark : {g : GoodWord} → r ≡ Ok g → {a : Bool} → a ≡ (number_in g.format g.word).approximate → a ≡ (number_in f w).approximate
   check_mark e ae = ae ∙ ap (λ (x : Number). x.approximate) (check_number e)
 
-  pub check_read : {g : GoodWord} → r ≡ Checked.Good g → done (number_of f w) ≡ read_word f w
+  pub check_read : {g : GoodWord} → r ≡ Ok g → done (number_of f w) ≡ read_word f w
   check_read e = sym (checked_read f w (check_good e))

@@ -12,6 +12,8 @@ use Rattle.convergents.specs.Best.{Best}
 use Rattle.convergents.proofs.Optimal.{held_is}
 use Rattle.convergents.proofs.BestLaws.{round_exact}
 use Rattle.convergents.proofs.RoundingLaws.{Rounds, differs_not}
+use Rattle.std.specs.Prelude.{Err}
+use Rattle.slash.specs.declared.answer.Stop.{Stop}
 use Rattle.slash.specs.Answers.{stop, done}
 use Rattle.slash.specs.Formats.{known, check_format, holds}
 use Rattle.slash.specs.Rounding.{rounded, round_ratio}
@@ -40,7 +42,7 @@ module _ (f : Format) (h : known f ≡ true) (n d : ℕ) (l : 1 ≤ d) (e : hold
 
 -- the answers of `round`
 module _ (f : Format) (N D : ℕ) where
-  pub ratio_refused : {n p : ℕ} → stop n p ≡ check_format f → stop n p ≡ round_ratio f N D
+  pub ratio_refused : {s : Stop} → Err s ≡ check_format f → Err s ≡ round_ratio f N D
   unfolding round_ratio
   ratio_refused e = then_stop _ e
 

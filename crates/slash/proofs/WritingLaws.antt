@@ -13,6 +13,8 @@ use Rattle.convergents.specs.Rounding.{round, held}
 use Rattle.convergents.specs.Best.{Best}
 use Rattle.convergents.proofs.Optimal.{zero_held}
 use Rattle.convergents.proofs.BestLaws.{round_best, round_lowest, round_held}
+use Rattle.std.specs.Prelude.{Err}
+use Rattle.slash.specs.declared.answer.Stop.{Stop}
 use Rattle.slash.specs.Answers.{stop, done}
 use Rattle.slash.specs.Formats.{known, check_format, holds}
 use Rattle.slash.specs.Rounding.{rounded}
@@ -127,7 +129,7 @@ over_some v p e h =
 -- ---- the answers of `write`
 
 module _ (f : Format) (x : Number) where
-  pub write_refused : {n p : ℕ} → stop n p ≡ check_format f → stop n p ≡ write_number f x
+  pub write_refused : {s : Stop} → Err s ≡ check_format f → Err s ≡ write_number f x
   unfolding write_number
   write_refused e = then_stop _ e
 

@@ -4,7 +4,6 @@ use Rattle.std.specs.Prelude.{if◌then◌else◌}
 use Rattle.slash.specs.Answers.{Outcome, stop, done, ◌then◌}
 use Rattle.slash.specs.Bits.{least_power, bit_count}
 use Rattle.slash.specs.declared.format.Format.{Format}
-use Rattle.slash.specs.declared.format.Made.{Made}
 
 -- ---- which there are
 
@@ -43,10 +42,6 @@ format_of kind k = record { kind = kind; k = k }
 -- Making a format: stop 1, or the format.
 unfoldable pub make_format : ℕ → ℕ → Outcome Format
 make_format kind k = of_known (format_of kind k) (format_of kind k)
-
-abbrev pub made_outcome : Made → Outcome Format
-made_outcome (Made.Done f) = done f
-made_outcome (Made.Stopped s) = stop s.number s.place
 
 -- ---- widths, and what is held
 

@@ -7,9 +7,7 @@ use Rattle.slash.specs.Formats.{is_fixed, k_fits, when_known, slash_bits, width_
 use Rattle.slash.specs.Bits.{bits, bit}
 use Rattle.slash.specs.declared.format.Format.{Format}
 use Rattle.slash.specs.declared.number.Number.{Number}
-use Rattle.slash.specs.declared.reading.Checked.{Checked}
 use Rattle.slash.specs.declared.reading.GoodWord.{GoodWord}
-use Rattle.slash.specs.declared.reading.Reading.{Reading}
 use Rattle.slash.specs.declared.number.Value.{Value}
 use Rattle.slash.specs.declared.number.Value.TheVariants.{Fraction, Zero, Infinity, NotANumber}
 use Rattle.slash.specs.declared.fields.FixedFields.{FixedFields}
@@ -105,16 +103,8 @@ good_word f w = record { format = f; word = w }
 abbrev pub checked_word : Format → ℕ → Outcome GoodWord
 checked_word f w = check_word f w then λ _. done (good_word f w)
 
-abbrev pub check_outcome : Checked → Outcome GoodWord
-check_outcome (Checked.Good g) = done g
-check_outcome (Checked.Stopped s) = stop s.number s.place
-
 unfoldable pub read_word : Format → ℕ → Outcome Number
 read_word f w = check_word f w then λ _. done (number_of f w)
-
-abbrev pub reading_outcome : Reading → Outcome Number
-reading_outcome (Reading.Done x) = done x
-reading_outcome (Reading.Stopped s) = stop s.number s.place
 
 -- What a `GoodWord` says, and its fields: what the word of this format does. For a k out of bounds, which the check lets through never, the
 -- answers are not-a-number and fields of 0.

@@ -7,7 +7,6 @@ use Rattle.slash.specs.Answers.{Outcome, stop, done}
 use Rattle.slash.specs.Formats.{when_known, holds}
 use Rattle.slash.specs.declared.format.Format.{Format}
 use Rattle.slash.specs.declared.rounding.Rounded.{Rounded}
-use Rattle.slash.specs.declared.rounding.Rounding.{Rounding}
 
 -- The last convergent of N/D that the format holds, marked if its value isn't N/D.
 abbrev pub rounded : Format → ℕ → ℕ → Rounded
@@ -21,7 +20,3 @@ round_ratio f N D =
     when_known f (
     if eqb D 0 then stop 6 0 else
     done (rounded f N D))
-
-abbrev pub rounding_outcome : Rounding → Outcome Rounded
-rounding_outcome (Rounding.Done x) = done x
-rounding_outcome (Rounding.Stopped s) = stop s.number s.place

@@ -1,9 +1,9 @@
 -- For the code and the proofs alone: what private functions come to and may take for granted, and the terms of the laws of reading and
 -- writing.
-use Rattle.std.specs.Prelude.{ℕ, ◌*◌, ◌^◌, ◌≤◌, ◌<◌, Bool, true, false, ◌≡◌, ◌⊎◌, eqb}
+use Rattle.std.specs.Prelude.{ℕ, Ok, Err, ◌*◌, ◌^◌, ◌≤◌, ◌<◌, Bool, true, false, ◌≡◌, ◌⊎◌, eqb}
 use Rattle.std.specs.Prelude.{if◌then◌else◌}
 use Rattle.convergents.specs.Pairs.{Pair, pair, Lowest}
-use Rattle.slash.specs.Answers.{Outcome, stop, done}
+use Rattle.slash.specs.Answers.{Outcome, done}
 use Rattle.slash.specs.Formats.{holds}
 use Rattle.slash.specs.Reading.{read_word}
 use Rattle.slash.specs.Writing.{pair_word, nan_word, write_number, word_for}
@@ -17,8 +17,8 @@ use Rattle.slash.specs.declared.number.Value.TheVariants.{Fraction, Zero, Infini
 
 -- The word that a call makes; 0 where it stops. (For steps of the code alone: no public call answers so.)
 unfoldable pub or_zero : Outcome ℕ → ℕ
-or_zero (stop number place) = 0
-or_zero (done w) = w
+or_zero (Err s) = 0
+or_zero (Ok w) = w
 
 -- The word of a value by its parts.
 unfoldable pub parts_word : Format → (sign mark : Bool) → (n d : ℕ) → ℕ

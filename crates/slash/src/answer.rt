@@ -8,27 +8,6 @@ pub struct Stop {
     pub place: u64,
 }
 
-// The answer of a call that makes nothing: a check, or one whose result stands in lent memory.
-#[derive(Clone, Copy)]
-pub enum Completion {
-    Done,
-    Stopped(Stop),
-}
-
-// The answer of a call that makes a word.
-#[derive(Clone, Copy)]
-pub enum Written {
-    Done(u64),
-    Stopped(Stop),
-}
-
-// The answer of a call that makes another number: a width, a count, a divisor.
-#[derive(Clone, Copy)]
-pub enum Answer {
-    Done(u64),
-    Stopped(Stop),
-}
-
 impl Stop {
     // Unknown kind or k.
     pub const FORMAT: u64 = 1;

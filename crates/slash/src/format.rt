@@ -1,9 +1,8 @@
 // A word format: a kind and a number k.
 ghost use Rattle.std.specs.Prelude.{◌≡◌, true, ◌≤◌};
-ghost use Rattle.slash.specs.Answers.{answer_outcome, completion_outcome};
-ghost use Rattle.slash.specs.Formats.{made_outcome, known, k_fits, check_format, make_format, of_known, slash_bits, width_of, largest_part};
+ghost use Rattle.slash.specs.Formats.{known, k_fits, check_format, make_format, of_known, slash_bits, width_of, largest_part};
 
-use crate::answer::{Answer, Completion, Stop};
+use crate::answer::Stop;
 use crate::bits::{bit_count, power};
 
 // The kind is FIXED or FLOATING. A format that a caller made by hand may be of no such kind, or
@@ -12,13 +11,6 @@ use crate::bits::{bit_count, power};
 pub struct Format {
     pub kind: u64,
     pub k: u64,
-}
-
-// What making a format answers.
-#[derive(Clone, Copy)]
-pub enum Made {
-    Done(Format),
-    Stopped(Stop),
 }
 
 impl Format {
@@ -32,50 +24,44 @@ impl Format {
 
     pub const MOST_FLOATING_K: u64 = 32;
 
-    pub fn make(kind: u64, k: u64) -> Made
-        ensures { made_outcome result ≡ make_format kind k }
+    pub fn make(kind: u64, k: u64) -> Result<Format, Stop>
+        ensures { result ≡ make_format kind k }
     {
         let f = Format { kind: kind, k: k };
-        match f.check() {
-            Completion::Stopped(s) => Made::Stopped(s),
-            Completion::Done => Made::Done(f),
-        }
+        f.check()?;
+        Ok(f)
     }
 
     // Whether the format is refused: what every call that takes one asks first.
-    pub fn check(self) -> Completion
-        ensures { completion_outcome result ≡ check_format self }
+    pub fn check(self) -> Result<(), Stop>
+        ensures { result ≡ check_format self }
     {
         if self.is_known() {
-            Completion::Done
+            Ok(())
         } else {
-            Completion::Stopped(Stop::plain(Stop::FORMAT))
+            Err(Stop::plain(Stop::FORMAT))
         }
     }
 
     // How many bits a word has.
-    pub fn width(self) -> Answer
-        ensures { answer_outcome result ≡ of_known self (width_of self) }
+    pub fn width(self) -> Result<u64, Stop>
+        ensures { result ≡ of_known self (width_of self) }
     {
-        match self.check() {
-            Completion::Stopped(s) => Answer::Stopped(s),
-            Completion::Done => Answer::Done(self.word_bits()),
-        }
+        self.check()?;
+        Ok(self.word_bits())
     }
 
     // The largest numerator of a pair that the format holds, 1/0 aside.
-    pub fn largest_numerator(self) -> Answer
-        ensures { answer_outcome result ≡ of_known self (largest_part self) }
+    pub fn largest_numerator(self) -> Result<u64, Stop>
+        ensures { result ≡ of_known self (largest_part self) }
     {
-        match self.check() {
-            Completion::Stopped(s) => Answer::Stopped(s),
-            Completion::Done => Answer::Done(self.largest_part()),
-        }
+        self.check()?;
+        Ok(self.largest_part())
     }
 
     // The largest denominator of a pair that the format holds: the same.
-    pub fn largest_denominator(self) -> Answer
-        ensures { answer_outcome result ≡ of_known self (largest_part self) }
+    pub fn largest_denominator(self) -> Result<u64, Stop>
+        ensures { result ≡ of_known self (largest_part self) }
     {
         self.largest_numerator()
     }

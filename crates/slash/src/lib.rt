@@ -15,10 +15,10 @@ mod reading;
 mod rounding;
 mod writing;
 
-pub use answer::{Answer, Completion, Stop, Written};
+pub use answer::Stop;
 pub use fields::{Fields, FixedFields, FloatingFields};
-pub use format::{Format, Made};
+pub use format::Format;
 pub use number::{Number, Parts, Value, is_nan, parts_of};
-pub use reading::{Checked, GoodWord, Reading, check, read};
-pub use rounding::{Rounded, Rounding, round};
+pub use reading::{GoodWord, check, read};
+pub use rounding::{Rounded, round};
 pub use writing::{round_word, write};

@@ -1,8 +1,8 @@
 // Reading a word: whether it is refused, and what it says.
 ghost use Rattle.std.specs.Prelude.{◌≡◌, ◌<◌};
-ghost use Rattle.slash.specs.Reading.{check_outcome, reading_outcome, is_above, checked_word, fields_in, number_in, read_word};
+ghost use Rattle.slash.specs.Reading.{is_above, checked_word, fields_in, number_in, read_word};
 
-use crate::answer::{Completion, Stop};
+use crate::answer::Stop;
 use crate::fields::{Fields, FixedFields};
 use crate::format::Format;
 use crate::number::{Number, Value};
@@ -17,20 +17,6 @@ pub struct GoodWord {
     word: u64,
 }
 
-// What checking a word answers.
-#[derive(Clone, Copy)]
-pub enum Checked {
-    Good(GoodWord),
-    Stopped(Stop),
-}
-
-// What reading a word answers.
-#[derive(Clone, Copy)]
-pub enum Reading {
-    Done(Number),
-    Stopped(Stop),
-}
-
 // Whether w has a bit above the width, which may be all 64 bits.
 fn is_above(w: u64, width: u64) -> bool
     requires { (0 < width) × (width < 65) }
@@ -41,23 +27,21 @@ fn is_above(w: u64, width: u64) -> bool
 
 // A word of a format, if it is good, or its stop. Checking, the value and the mark are functions of their own:
 // together, as `read`, they are too large for the compiler to put in place of a call.
-pub fn check(f: Format, w: u64) -> Checked
-    ensures { check_outcome result ≡ checked_word f w }
+pub fn check(f: Format, w: u64) -> Result<GoodWord, Stop>
+    ensures { result ≡ checked_word f w }
 {
-    if let Completion::Stopped(s) = f.check() {
-        return Checked::Stopped(s);
-    }
+    f.check()?;
     if is_above(w, f.word_bits()) {
-        return Checked::Stopped(Stop::plain(Stop::WIDTH));
+        return Err(Stop::plain(Stop::WIDTH));
     }
     let good = GoodWord { format: f, word: w };
     if f.kind == Format::FIXED {
-        return Checked::Good(good);
+        return Ok(good);
     }
     if floating::is_undefined(f.k, w) {
-        return Checked::Stopped(Stop::plain(Stop::SLASH));
+        return Err(Stop::plain(Stop::SLASH));
     }
-    Checked::Good(good)
+    Ok(good)
 }
 
 impl GoodWord {
@@ -117,17 +101,13 @@ impl GoodWord {
 }
 
 // What a word of a format says.
-pub fn read(f: Format, w: u64) -> Reading
-    ensures { reading_outcome result ≡ read_word f w }
+pub fn read(f: Format, w: u64) -> Result<Number, Stop>
+    ensures { result ≡ read_word f w }
 {
-    match check(f, w) {
-        Checked::Stopped(s) => Reading::Stopped(s),
-        Checked::Good(g) => {
-            let v = g.value();
-            Reading::Done(Number {
-                value: v,
-                approximate: g.is_approximate(),
-            })
-        }
-    }
+    let g = check(f, w)?;
+    let v = g.value();
+    Ok(Number {
+        value: v,
+        approximate: g.is_approximate(),
+    })
 }

@@ -2,11 +2,11 @@
 ghost use Rattle.std.specs.Prelude.{◌≡◌, true, ◌≤◌};
 ghost use Rattle.convergents.specs.Pairs.{pair};
 ghost use Rattle.convergents.specs.Best.{Best};
-ghost use Rattle.slash.specs.Rounding.{rounding_outcome, rounded, round_ratio};
+ghost use Rattle.slash.specs.Rounding.{rounded, round_ratio};
 ghost use Rattle.slash.specs.Answers.{WhenDone};
 ghost use Rattle.slash.specs.Formats.{known, holds};
 
-use crate::answer::{Completion, Stop};
+use crate::answer::Stop;
 use crate::bits::{bit_count, power};
 use crate::format::Format;
 
@@ -16,13 +16,6 @@ pub struct Rounded {
     pub numerator: u64,
     pub denominator: u64,
     pub approximate: bool,
-}
-
-// What rounding answers.
-#[derive(Clone, Copy)]
-pub enum Rounding {
-    Done(Rounded),
-    Stopped(Stop),
 }
 
 // Whether the format holds r/s, where s is at least 1.
@@ -79,15 +72,13 @@ pub(crate) fn last_held(f: Format, n: u64, d: u64) -> Rounded
 }
 
 // n/d rounded into the format.
-pub fn round(f: Format, n: u64, d: u64) -> Rounding
-    ensures rounded { rounding_outcome result ≡ round_ratio f n d }
-    ensures best { WhenDone (rounding_outcome result) (λ x. Best (holds f) n d (pair x.numerator x.denominator)) }
+pub fn round(f: Format, n: u64, d: u64) -> Result<Rounded, Stop>
+    ensures rounded { result ≡ round_ratio f n d }
+    ensures best { WhenDone result (λ x. Best (holds f) n d (pair x.numerator x.denominator)) }
 {
-    if let Completion::Stopped(s) = f.check() {
-        return Rounding::Stopped(s);
-    }
+    f.check()?;
     if d == 0 {
-        return Rounding::Stopped(Stop::plain(Stop::DENOMINATOR));
+        return Err(Stop::plain(Stop::DENOMINATOR));
     }
-    Rounding::Done(last_held(f, n, d))
+    Ok(last_held(f, n, d))
 }

@@ -2,13 +2,13 @@
 ghost use Rattle.std.specs.Prelude.{◌≡◌, true, false};
 ghost use Rattle.convergents.specs.Pairs.{pair};
 ghost use Rattle.convergents.specs.Rounding.{held};
-ghost use Rattle.slash.specs.Answers.{written_outcome, WhenDone};
+ghost use Rattle.slash.specs.Answers.{WhenDone};
 ghost use Rattle.slash.specs.Formats.{known, holds, format_of};
 ghost use Rattle.slash.specs.Steps.{parts_word};
 ghost use Rattle.slash.specs.Writing.{pair_word, nan_word, word_for, is_over_zero, write_number, exact_ratio};
 ghost use Rattle.slash.specs.Best.{BestForRatio, BestForValue};
 
-use crate::answer::{Completion, Stop, Written};
+use crate::answer::Stop;
 use crate::format::Format;
 use crate::number::{Number, Value, parts_of};
 use crate::rounding::last_held;
@@ -84,30 +84,26 @@ fn is_over_zero(v: Value) -> bool
 }
 
 // The canonical word of a number in a format: a fraction is rounded into it.
-pub fn write(f: Format, x: Number) -> Written
-    ensures written { written_outcome result ≡ write_number f x }
-    ensures best { WhenDone (written_outcome result) (λ w. BestForValue f x.value w) }
+pub fn write(f: Format, x: Number) -> Result<u64, Stop>
+    ensures written { result ≡ write_number f x }
+    ensures best { WhenDone result (λ w. BestForValue f x.value w) }
 {
-    if let Completion::Stopped(s) = f.check() {
-        return Written::Stopped(s);
-    }
+    f.check()?;
     let v = x.value;
     if is_over_zero(v) {
-        return Written::Stopped(Stop::plain(Stop::DENOMINATOR));
+        return Err(Stop::plain(Stop::DENOMINATOR));
     }
-    Written::Done(value_word(f, x.approximate, v))
+    Ok(value_word(f, x.approximate, v))
 }
 
 // The word of n/d, exact, rounded into a format.
-pub fn round_word(f: Format, n: u64, d: u64) -> Written
-    ensures written { written_outcome result ≡ write_number f (exact_ratio n d) }
-    ensures best { WhenDone (written_outcome result) (λ w. BestForRatio f n d w) }
+pub fn round_word(f: Format, n: u64, d: u64) -> Result<u64, Stop>
+    ensures written { result ≡ write_number f (exact_ratio n d) }
+    ensures best { WhenDone result (λ w. BestForRatio f n d w) }
 {
-    if let Completion::Stopped(s) = f.check() {
-        return Written::Stopped(s);
-    }
+    f.check()?;
     if d == 0 {
-        return Written::Stopped(Stop::plain(Stop::DENOMINATOR));
+        return Err(Stop::plain(Stop::DENOMINATOR));
     }
-    Written::Done(parts_word(f.kind, f.k, false, false, n, d))
+    Ok(parts_word(f.kind, f.k, false, false, n, d))
 }

@@ -5,6 +5,8 @@ use mathlib.Core.List.{List}
 use Prim.Native.Nat.{ℕ}
 use lib.ListN.{length}
 use borrow.Author.Tests.{eq-eqb, ne_eqb}
+use Rattle.std.specs.Prelude.{Err}
+use Rattle.slash.specs.declared.answer.Stop.{Stop}
 use Rattle.slash.specs.Answers.{stop}
 use Rattle.slash.specs.Formats.{known, check_format}
 use Rattle.slash.specs.Reading.{check_word}
@@ -15,7 +17,7 @@ use Rattle.vectors.specs.Places.{places, same_length}
 use Rattle.vectors.specs.Checks.{checks, check_operands, checked_words, checked_pairs}
 
 module _ (f : Format) (operand : List ℕ) where
-  pub words_format : {n p : ℕ} → stop n p ≡ check_format f → stop n p ≡ checked_words f operand
+  pub words_format : {s : Stop} → Err s ≡ check_format f → Err s ≡ checked_words f operand
   unfolding checked_words
   words_format e = then_stop _ e
 
@@ -24,7 +26,7 @@ module _ (f : Format) (operand : List ℕ) where
   words_all h = rw (format_good f h) refl
 
 module _ (f : Format) (left right : List ℕ) where
-  pub pairs_format : {n p : ℕ} → stop n p ≡ check_format f → stop n p ≡ checked_pairs f left right
+  pub pairs_format : {s : Stop} → Err s ≡ check_format f → Err s ≡ checked_pairs f left right
   unfolding checked_pairs
   pairs_format e = then_stop _ e
 

@@ -9,7 +9,7 @@ use native.Mathlib.Nat.{not-suc-le-zero, le_of_suc-le-suc}
 use native.Mathlib.Numerals.{add-one}
 use lib.ListN.{length, take, drop, set, get_or, drop_of_length-le, length-set}
 use lib.Seq.{drop-cons, take-suc-set, take_all}
-use Rattle.slash.specs.Answers.{Outcome, stop, done, ◌then◌, WhenDone, completion_outcome}
+use Rattle.slash.specs.Answers.{Outcome, stop, done, ◌then◌, WhenDone}
 use Rattle.slash.specs.Steps.{or_zero}
 use Rattle.slash.proofs.AnswerLaws.{no_stop}
 use Rattle.slash.specs.declared.answer.Stop.{Stop}
@@ -17,7 +17,7 @@ use Rattle.vectors.specs.Each.{at_place, each, vector_after, stop_only, EachPlac
 use Rattle.vectors.specs.Places.{operands, places}
 use Rattle.vectors.specs.Checks.{checks}
 use Rattle.vectors.specs.Steps.{Storing}
-use Rattle.slash.specs.declared.answer.Completion.{Completion}
+use Rattle.std.specs.Prelude.{Ok, Err}
 
 -- ---- the operands at place i and after
 
@@ -49,13 +49,13 @@ unfolding stop_only
 stop_checked c v o e = ap stop_only (sym e) ∙ go c
   where
     go : (d : Outcome (Unit {0})) → stop_only (d then λ _. done v) ≡ d
-    go (stop n p) = refl
-    go (done u) = refl
+    go (Err t) = refl
+    go (Ok u) = refl
 
 stop_word : {B : Type 0} (o : Outcome B) (g : B → List ℕ) → stop_only (o then λ x. done (g x)) ≡ stop_only o
 unfolding stop_only
-stop_word (stop n p) g = refl
-stop_word (done x) g = refl
+stop_word (Err t) g = refl
+stop_word (Ok x) g = refl
 
 module _ {A : Type 0} where
   -- ---- the check, a place at a time
@@ -65,7 +65,7 @@ module _ {A : Type 0} where
     unfolding checks at_place
     check_next x e d = rw (e, ← d, add-one) refl
 
-    pub check_stop : (x : A) {n p : ℕ} → drop i xs ≡ x ∷ drop (i + 1) xs → stop n p ≡ check x → stop n i ≡ checks check i (drop i xs)
+    pub check_stop : (x : A) {s : Stop} → drop i xs ≡ x ∷ drop (i + 1) xs → Err s ≡ check x → stop s.number i ≡ checks check i (drop i xs)
     unfolding checks at_place
     check_stop x e d = rw (e, ← d) refl
 
@@ -99,8 +99,8 @@ module _ {A : Type 0} where
     stop_each i (x ∷ xs) = go (op x) refl (stop_each (suc i) xs)
       where
         go : (o : Outcome ℕ) → op x ≡ o → stop_only (each op (suc i) xs) ≡ checks check (suc i) xs → stop_only (each op i (x ∷ xs)) ≡ checks check i (x ∷ xs)
-        go (stop n p) e ih = rw (← agree x, e) refl
-        go (done w) e ih = rw (← agree x, e) (stop_word (each op (suc i) xs) (λ ws. w ∷ ws) ∙ ih)
+        go (Err t) e ih = rw (← agree x, e) refl
+        go (Ok w) e ih = rw (← agree x, e) (stop_word (each op (suc i) xs) (λ ws. w ∷ ws) ∙ ih)
 
     each_words : (i : ℕ) (xs : List A) → checks check i xs ≡ done tt → each op i xs ≡ done (map (λ x. or_zero (op x)) xs)
     unfolding stop_only each checks at_place or_zero
@@ -109,10 +109,10 @@ module _ {A : Type 0} where
       where
         go : (o : Outcome ℕ) → op x ≡ o → (checks check (suc i) xs ≡ done tt → each op (suc i) xs ≡ done (map (λ y. or_zero (op y)) xs))
             → each op i (x ∷ xs) ≡ done (map (λ y. or_zero (op y)) (x ∷ xs))
-        go (stop n p) e ih =
-            let d : stop n i ≡ checks check i (x ∷ xs) = rw (← agree x, e) refl in
+        go (Err t) e ih =
+            let d : stop t.number i ≡ checks check i (x ∷ xs) = rw (← agree x, e) refl in
             absurd (no_stop (d ∙ c))
-        go (done w) e ih =
+        go (Ok w) e ih =
             let d : checks check (suc i) xs ≡ checks check i (x ∷ xs) = rw (← agree x, e) refl in
             rw (e, ih (d ∙ c)) refl
 
@@ -125,36 +125,36 @@ module _ {A : Type 0} where
         where
           go : (p : Outcome ℕ) → op y ≡ p → (q : Outcome (List ℕ)) → each op (suc i) ys ≡ q → WhenDone (op y) (P y) → WhenDone (each op (suc i) ys) (λ ws. EachPlace P ys ws)
               → WhenDone (each op i (y ∷ ys)) (λ ws. EachPlace P (y ∷ ys) ws)
-          go (stop n p) e q d b r = rw e tt
-          go (done w) e (stop n p) d b r = rw (e, d) tt
-          go (done w) e (done ws) d b r =
+          go (Err t) e q d b r = rw e tt
+          go (Ok w) e (Err t) d b r = rw (e, d) tt
+          go (Ok w) e (Ok ws) d b r =
               let b₁ : P y w = subst (λ (p : Outcome ℕ). WhenDone p (P y)) e b in
               let r₁ : EachPlace P ys ws = subst (λ (p : Outcome (List ℕ)). WhenDone p (λ vs. EachPlace P ys vs)) d r in
               rw (e, d) (b₁, r₁)
 
-      module _ (oe : each op 0 xs ≡ o) (res : Completion) (re : completion_outcome res ≡ checks check 0 xs) where
-        pub each_stopped : (s : Stop) → res ≡ Completion.Stopped s
-            → (stop s.number s.place ≡ stop_only o) × ((old ≡ vector_after o old) × Unit {0})
+      module _ (oe : each op 0 xs ≡ o) (res : Outcome (Unit {0})) (re : res ≡ checks check 0 xs) where
+        pub each_stopped : (s : Stop) → res ≡ Err s
+            → (Err s ≡ stop_only o) × ((old ≡ vector_after o old) × Unit {0})
         unfolding stop_only vector_after
         each_stopped s e =
-            let t : stop s.number s.place ≡ stop_only o = sym (ap completion_outcome e) ∙ re ∙ sym (stop_each 0 xs) ∙ ap stop_only oe in
+            let t : Err s ≡ stop_only o = sym e ∙ re ∙ sym (stop_each 0 xs) ∙ ap stop_only oe in
             go o t
           where
-            go : (p : Outcome (List ℕ)) → stop s.number s.place ≡ stop_only p → (stop s.number s.place ≡ stop_only p) × ((old ≡ vector_after p old) × Unit {0})
-            go (stop n p) t = (t, (refl, tt))
-            go (done ws) t = absurd (no_stop t)
+            go : (p : Outcome (List ℕ)) → Err s ≡ stop_only p → (Err s ≡ stop_only p) × ((old ≡ vector_after p old) × Unit {0})
+            go (Err r) t = (t, (refl, tt))
+            go (Ok ws) t = absurd (no_stop t)
 
-        pub each_done : res ≡ Completion.Done → (new : List ℕ) → new ≡ map (λ x. or_zero (op x)) xs
+        pub each_done : res ≡ Ok tt → (new : List ℕ) → new ≡ map (λ x. or_zero (op x)) xs
             → (done tt ≡ stop_only o) × ((new ≡ vector_after o old) × EachPlace P xs new)
         unfolding stop_only vector_after
         each_done e new ne =
-            let c : checks check 0 xs ≡ done tt = sym re ∙ ap completion_outcome e in
+            let c : checks check 0 xs ≡ done tt = sym re ∙ e in
             let w : each op 0 xs ≡ done new = each_words 0 xs c ∙ ap done (sym ne) in
             let d : o ≡ done new = sym oe ∙ w in
             let b : EachPlace P xs new = subst (λ (p : Outcome (List ℕ)). WhenDone p (λ ws. EachPlace P xs ws)) w (each_best 0 xs) in
             (rw d refl, (rw d refl, b))
 
 -- a stop before the words are looked at
-pub refused : {n p : ℕ} (o : Outcome (List ℕ)) (old : List ℕ) → stop n p ≡ o → (stop n p ≡ stop_only o) × ((old ≡ vector_after o old) × Unit {0})
+pub refused : {s : Stop} (o : Outcome (List ℕ)) (old : List ℕ) → Err s ≡ o → (Err s ≡ stop_only o) × ((old ≡ vector_after o old) × Unit {0})
 unfolding stop_only vector_after
 refused o old e = (rw (← e) refl, (rw (← e) refl, tt))

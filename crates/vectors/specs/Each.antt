@@ -1,11 +1,11 @@
 -- An operation at each place of a list.
-use Rattle.std.specs.Prelude.{ℕ, suc, List, [], ◌∷◌}
+use Rattle.std.specs.Prelude.{ℕ, suc, List, [], ◌∷◌, Ok, Err}
 use Rattle.slash.specs.Answers.{Outcome, stop, done, ◌then◌}
 
 -- A stop that names its place.
 unfoldable pub at_place : {A : Type 0} → ℕ → Outcome A → Outcome A
-at_place i (stop number place) = stop number i
-at_place i (done x) = done x
+at_place i (Err s) = stop s.number i
+at_place i (Ok x) = done x
 
 -- An operation at each place, from place i on: the words that it gives, in order, or the stop of the lowest place that has one. The word at a
 -- place depends on the operands at that place only.
@@ -18,13 +18,13 @@ each op i (x ∷ xs) =
 
 -- What stands in a lent vector then: the words; on a stop all as it was.
 unfoldable pub vector_after : Outcome (List ℕ) → List ℕ → List ℕ
-vector_after (stop number place) old = old
-vector_after (done words) old = words
+vector_after (Err s) old = old
+vector_after (Ok words) old = words
 
 -- What is answered besides: a stop, or that there was none.
 unfoldable pub stop_only : {A : Type 0} → Outcome A → Outcome (Unit {0})
-stop_only (stop number place) = stop number place
-stop_only (done x) = done tt
+stop_only (Err s) = Err s
+stop_only (Ok x) = done tt
 
 -- What holds, at each place, of the operands and the word there. (The two lists are equally long.)
 unfoldable pub EachPlace : {A : Type 0} → (A → ℕ → Type 0) → List A → List ℕ → Type 0

@@ -1,7 +1,7 @@
 use Rattle.arithmetic.proofs.OperationLaws.{stop_format, stop_code, stop_left, stop_right, both_good, binary_made}
 use Rattle.arithmetic.proofs.OperandLaws.{checked_operand, small_back}
 use Rattle.slash.proofs.AnswerLaws.{plain_stop, completion_stop}
-use Rattle.slash.proofs.FormatLaws.{completion_known}
+use Rattle.slash.proofs.FormatLaws.{check_known}
 use Rattle.slash.proofs.ReadingLaws.{check_stop, check_good, check_value, check_mark}
 use mathlib.Core.Path.{sym, ◌∙◌}
 use Rattle.arithmetic.proofs.operation.binary.Goals as goal
@@ -12,7 +12,7 @@ returns-in-Stopped c =
 
 pub returns-then-not-is_binary : goal.returns-then-not-is_binary
 returns-then-not-is_binary c =
-    let known = completion_known _ c.check.ensures c.in_default.is in
+    let known = check_known _ c.check.ensures c.in_default.is in
     record { written = plain_stop _ 2 c.plain.ensures (stop_code _ _ _ _ known (sym c.is_binary.ensures ∙ c.if-not-is_binary.true)); best = tt }
 
 pub combined_word-requires : goal.combined_word-requires
@@ -25,12 +25,12 @@ combined_word-requires c =
 
 pub returns-in-Stopped-check : goal.returns-in-Stopped-check
 returns-in-Stopped-check c =
-    let known = completion_known _ c.check.ensures c.in_default.is in
+    let known = check_known _ c.check.ensures c.in_default.is in
     record { written = stop_left _ _ _ _ known (sym c.is_binary.ensures ∙ c.if-not-is_binary.false) (check_stop _ _ c.check-2.ensures c.in-Stopped-check.is); best = tt }
 
 pub returns-in-Stopped-check-2 : goal.returns-in-Stopped-check-2
 returns-in-Stopped-check-2 c =
-    let known = completion_known _ c.check.ensures c.in_default.is in
+    let known = check_known _ c.check.ensures c.in_default.is in
     let left = check_good _ _ c.check-2.ensures c.in-Good.is in
     record { written = stop_right _ _ _ _ known (sym c.is_binary.ensures ∙ c.if-not-is_binary.false) left (check_stop _ _ c.check-in-Good.ensures c.in-Stopped-check-2.is); best = tt }
 

@@ -1,6 +1,6 @@
 use Rattle.unary.proofs.OperationLaws.{good_small, good_touched, good_written, good_fraction, stop_format, stop_code, stop_word, unary_made}
 use Rattle.slash.proofs.AnswerLaws.{plain_stop, completion_stop}
-use Rattle.slash.proofs.FormatLaws.{completion_known}
+use Rattle.slash.proofs.FormatLaws.{check_known}
 use Rattle.slash.proofs.ReadingLaws.{check_stop, check_good, check_value, check_mark}
 use mathlib.Core.Path.{refl, sym, ◌∙◌}
 use Rattle.unary.proofs.operation.unary.Goals as goal
@@ -11,15 +11,15 @@ returns-in-Stopped c =
 
 pub returns-then-not-is_unary : goal.returns-then-not-is_unary
 returns-then-not-is_unary c =
-    let known = completion_known _ c.check.ensures c.in_default.is in
+    let known = check_known _ c.check.ensures c.in_default.is in
     record { written = plain_stop _ 2 c.plain.ensures (stop_code _ _ _ known (sym c.is_unary.ensures ∙ c.if-not-is_unary.true)); best = λ l. tt }
 
 pub touch_sign-requires : goal.touch_sign-requires
-touch_sign-requires c = completion_known _ c.check.ensures c.in_default.is
+touch_sign-requires c = check_known _ c.check.ensures c.in_default.is
 
 pub returns-then-is_sign_touch : goal.returns-then-is_sign_touch
 returns-then-is_sign_touch c =
-    let known = completion_known _ c.check.ensures c.in_default.is in
+    let known = check_known _ c.check.ensures c.in_default.is in
     let good = check_good _ _ c.check-2.ensures c.in-Good.is in
     let v = check_value _ _ c.check-2.ensures c.in-Good.is c.value-v.ensures in
     let m =
@@ -36,7 +36,7 @@ special_word-requires c =
 
 pub returns-in_default-v : goal.returns-in_default-v
 returns-in_default-v c =
-    let known = completion_known _ c.check.ensures c.in_default.is in
+    let known = check_known _ c.check.ensures c.in_default.is in
     let good = check_good _ _ c.check-2.ensures c.in-Good.is in
     let v = check_value _ _ c.check-2.ensures c.in-Good.is c.value-v.ensures in
     let a = check_mark _ _ c.check-2.ensures c.in-Good.is c.is_approximate-marked.ensures in
@@ -54,12 +54,12 @@ fraction_word-requires c =
 
 pub returns-in-Stopped-check : goal.returns-in-Stopped-check
 returns-in-Stopped-check c =
-    let known = completion_known _ c.check.ensures c.in_default.is in
+    let known = check_known _ c.check.ensures c.in_default.is in
     record { written = stop_word _ _ _ known (sym c.is_unary.ensures ∙ c.if-not-is_unary.false) (check_stop _ _ c.check-2.ensures c.in-Stopped-check.is); best = λ l. tt }
 
 pub returns-in-Fraction : goal.returns-in-Fraction
 returns-in-Fraction c =
-    let known = completion_known _ c.check.ensures c.in_default.is in
+    let known = check_known _ c.check.ensures c.in_default.is in
     let good = check_good _ _ c.check-2.ensures c.in-Good.is in
     let v = check_value _ _ c.check-2.ensures c.in-Good.is c.value-v.ensures in
     let a = check_mark _ _ c.check-2.ensures c.in-Good.is c.is_approximate-marked.ensures in

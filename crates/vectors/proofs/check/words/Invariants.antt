@@ -1,12 +1,8 @@
 use Rattle.slash.specs.Reading.{check_word}
 use Rattle.vectors.specs.Checks.{checks}
 use mathlib.Core.Path.{◌≡◌}
-use Prim.Native.Nat.{◌≤◌, ◌-◌}
-use lib.ListN.{length, drop}
+use lib.ListN.{drop}
 use Rattle.vectors.proofs.check.words.Given as goal
 
 abbrev pub invariant-loop-i : goal.invariant-loop-i
-invariant-loop-i l = (l.i ≤ length l.operand) × (checks (check_word l.f) l.i (drop l.i l.operand) ≡ checks (check_word l.f) 0 l.operand)
-
-abbrev pub decreases-loop-i : goal.decreases-loop-i
-decreases-loop-i l = length l.operand - l.i
+invariant-loop-i l = checks (check_word l.f) l.i (drop l.i l.operand) ≡ checks (check_word l.f) 0 l.operand

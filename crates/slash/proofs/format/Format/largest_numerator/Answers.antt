@@ -1,14 +1,15 @@
-use Rattle.slash.proofs.AnswerLaws.{completion_stop}
-use Rattle.slash.proofs.FormatLaws.{completion_known, of_known_lem, of_refused}
+use Rattle.slash.proofs.AnswerLaws.{passed_on}
+use mathlib.Core.Path.{sym}
+use Rattle.slash.proofs.FormatLaws.{check_known, of_known_lem, of_refused}
 use Rattle.slash.specs.Answers.{done}
 use mathlib.Core.Path.{ap, ◌∙◌}
 use Rattle.slash.proofs.format.Format.largest_numerator.Goals as goal
 
 pub largest_part-requires : goal.largest_part-requires
-largest_part-requires c = completion_known _ c.check.ensures c.in-Done.is
+largest_part-requires c = check_known _ c.check.ensures c.in_ok-check.was
 
-pub returns-in-Stopped : goal.returns-in-Stopped
-returns-in-Stopped c = of_refused _ _ (completion_stop c.check.ensures c.in-Stopped.is)
+pub returns-in_err-check : goal.returns-in_err-check
+returns-in_err-check c = passed_on _ c.from_residual.ensures ∙ of_refused _ _ (sym c.in_err-check.was ∙ c.check.ensures)
 
-pub returns-in-Done : goal.returns-in-Done
-returns-in-Done c = ap done c.largest_part.ensures ∙ of_known_lem _ _ (completion_known _ c.check.ensures c.in-Done.is)
+pub returns : goal.returns
+returns c = ap done c.largest_part.ensures ∙ of_known_lem _ _ (check_known _ c.check.ensures c.in_ok-check.was)
