@@ -6,15 +6,15 @@ use Rattle.std.proofs.Common.{◌≡◌, ℕ, ◌+◌, ◌-◌, ◌*◌, ◌^◌
 use mathlib.Core.Bool.{and-eq-true_iff}
 use native.Mathlib.Decide.{dec_le, dec_lt, ℕ_discrete}
 use borrow.Author.Tests.{lt-leb, not-true, not-false}
-use Rattle.slash.specs.Answers.{Outcome, stop, done, ◌then◌, WhenDone}
+use Rattle.std.specs.Prelude.{Ok, Err}
+use Rattle.slash.specs.Answers.{Outcome, stop, done, WhenDone}
 use Rattle.slash.specs.declared.answer.Stop.{Stop}
-use Rattle.slash.proofs.AnswerLaws.{done_inj, no_stop}
-use Rattle.breaths.specs.Rates.{is_rate, make_rate, rate_outcome}
+use Rattle.slash.proofs.AnswerLaws.{done_inj, no_stop, then_stop, then_done}
+use Rattle.breaths.specs.Rates.{is_rate, make_rate}
 use Rattle.breaths.specs.Ratios.{word_of, ratio_of, BestRatio}
 use Rattle.breaths.specs.Breaths.{span, breath_of, is_void, breath_ratio, breath_word, breath_stored}
 use Rattle.breaths.specs.declared.breath.Breath.{Breath}
 use Rattle.breaths.specs.declared.rate.Rate.{Rate}
-use Rattle.breaths.specs.declared.rate.RateMade.{RateMade}
 use Rattle.breaths.specs.declared.ratio.Ratio.{Ratio}
 use Rattle.breaths.proofs.RatioLaws.{Promised, good_breath, breath_proportion, ratio_of_word}
 
@@ -60,7 +60,7 @@ module _ (ticks : ℕ) where
       go true h = (ap (λ (r : Rate). r.ticks) (done_inj (sym e ∙ sym (rate_done h))), h)
       go false h = absurd (no_stop (rate_stop h ∙ e))
 
-  pub rate_not_made : {number place : ℕ} → make_rate ticks ≡ stop number place → is_rate ticks ≡ false
+  pub rate_not_made : {s : Stop} → make_rate ticks ≡ Err s → is_rate ticks ≡ false
   rate_not_made e = go (is_rate ticks) refl
     where
       go : (t : Bool) → is_rate ticks ≡ t → is_rate ticks ≡ false
@@ -114,23 +114,21 @@ backward_void rate onset peak next o h l =
 
 -- ---- the answers of `stored_word`
 
-module _ (rate onset peak next : ℕ) (a : RateMade) (e : rate_outcome a ≡ make_rate rate) where
+module _ (rate onset peak next : ℕ) where
   abbrev StoresBest : Outcome ℕ → Type 0
   StoresBest o = WhenDone o (λ w. BestRatio (breath_of onset peak next).inspiration (breath_of onset peak next).whole (ratio_of w))
 
-  pub stored_done : (known : Rate) → a ≡ RateMade.Done known → (b : Breath) → b ≡ breath_of onset peak next → (r : Ratio)
+  pub stored_done : (known : Rate) → Ok known ≡ make_rate rate → (b : Breath) → b ≡ breath_of onset peak next → (r : Ratio)
       → Promised (breath_ratio known.ticks b) (breath_word known.ticks b) b.inspiration b.whole r → (w : ℕ) → w ≡ word_of r
       → (done w ≡ breath_stored rate onset peak next) × StoresBest (done w)
   unfolding breath_stored
-  stored_done known d b be r p w we =
-      let made : done known ≡ make_rate rate = sym (ap rate_outcome d) ∙ e in
+  stored_done known made b be r p w we =
       let word : w ≡ breath_word known.ticks (breath_of onset peak next) = we ∙ p.1.0 ∙ ap (breath_word known.ticks) be in
       let shown : ratio_of (word_of r) ≡ r = subst (λ (x : Ratio). ratio_of (word_of x) ≡ x) (sym p.0) (ratio_of_word _ (breath_proportion known.ticks b)) in (
-        ap done word ∙ ap (λ (o : Outcome Rate). o then λ k. done (breath_word k.ticks (breath_of onset peak next))) made,
+        ap done word ∙ then_done (λ (k : Rate). done (breath_word k.ticks (breath_of onset peak next))) made refl,
         subst (λ (c : Breath). BestRatio c.inspiration c.whole (ratio_of w)) be (subst (BestRatio b.inspiration b.whole) (sym (ap ratio_of we ∙ shown)) p.1.1),
       )
 
-  pub stored_stopped : (s : Stop) → a ≡ RateMade.Stopped s
-      → (stop s.number s.place ≡ breath_stored rate onset peak next) × StoresBest (stop s.number s.place)
+  pub stored_stopped : {s : Stop} → Err s ≡ make_rate rate → Err s ≡ breath_stored rate onset peak next
   unfolding breath_stored
-  stored_stopped s d = (ap (λ (o : Outcome Rate). o then λ k. done (breath_word k.ticks (breath_of onset peak next))) (sym (ap rate_outcome d) ∙ e), tt)
+  stored_stopped e = then_stop _ e

@@ -7,20 +7,19 @@
 use Rattle.std.proofs.Common.{◌≡◌, ℕ, zero, suc, ◌+◌, ◌*◌, ◌%◌, ◌^◌, ◌<◌, ◌≤◌, Bool, true, false, not, ◌&&◌, ◌||◌, eqb, ltb, leb, List, [], ◌∷◌, sym, refl, ap, ◌∙◌, subst, ⊎_elim, true≢false, mul-le-mul_right, mod-lt, mul-le-mul_left, arith, ltb-false, eq-eqb, ne_eqb, eqb-true, leb-true}
 use native.Mathlib.Decide.{dec_le, ℕ_discrete}
 use borrow.Author.Tests.{eqb-false, not-true}
-use Rattle.std.specs.Prelude.{if◌then◌else◌}
+use Rattle.std.specs.Prelude.{if◌then◌else◌, Ok, Err}
 use Rattle.convergents.specs.Pairs.{Pair, pair, differs}
 use Rattle.convergents.specs.Rounding.{Limit, held, round}
 use Rattle.convergents.specs.Best.{Best}
 use Rattle.convergents.proofs.Optimal.{held_is, zero_held}
 use Rattle.convergents.proofs.BestLaws.{round_best}
-use Rattle.slash.specs.Answers.{Outcome, stop, done, written_outcome, WhenDone}
+use Rattle.slash.specs.Answers.{Outcome, stop, done, WhenDone}
 use Rattle.slash.specs.Bits.{bits, bit, word_of_fields}
 use Rattle.slash.specs.Formats.{holds}
 use Rattle.slash.specs.Reading.{fixed_value, fixed_number, number_of}
 use Rattle.slash.specs.Writing.{fixed_word, pair_word, word_for, is_over_zero, write_number, exact_ratio}
 use Rattle.slash.specs.Numbers.{is_nan, pair_of}
 use Rattle.slash.specs.Best.{BestForRatio, BestForValue}
-use Rattle.slash.specs.declared.answer.Written.{Written}
 use Rattle.slash.specs.declared.answer.Stop.{Stop}
 use Rattle.slash.specs.declared.format.Format.{Format}
 use Rattle.slash.specs.declared.number.Value.{Value}
@@ -148,33 +147,33 @@ module _ (n d : ℕ) where
   short_word pos w e = (ap Word e ∙ sym (parts_some n d pos), subst (λ (v : ℕ). BestForRatio ratio_format n d v) (sym e) (ratio_best n d pos))
 
 -- the answers of `Ratio::of_parts`, by what `slash::round_word` answers
-module _ (N D : ℕ) (f : Format) (fe : f ≡ ratio_format) (a : Written)
-    (w : (written_outcome a ≡ write_number f (exact_ratio N D)) × WhenDone (written_outcome a) (λ v. BestForRatio f N D v)) where
-  answer : written_outcome a ≡ write_number ratio_format (exact_ratio N D)
+module _ (N D : ℕ) (f : Format) (fe : f ≡ ratio_format) (a : Outcome ℕ)
+    (w : (a ≡ write_number f (exact_ratio N D)) × WhenDone a (λ v. BestForRatio f N D v)) where
+  answer : a ≡ write_number ratio_format (exact_ratio N D)
   answer = w.0 ∙ ap (λ (g : Format). write_number g (exact_ratio N D)) fe
 
   over_zero : D ≡ 0 → stop 6 0 ≡ write_number ratio_format (exact_ratio N D)
   unfolding is_over_zero
   over_zero z = write_over_zero ratio_format _ known_format (eq-eqb D 0 z)
 
-  pub parts_done : (v : ℕ) → a ≡ Written.Done v → (Word v ≡ parts_ratio N D) × BestRatio N D (Word v)
+  pub parts_done : (v : ℕ) → a ≡ Ok v → (Word v ≡ parts_ratio N D) × BestRatio N D (Word v)
   unfolding BestRatio
   parts_done v e =
-      let made : done v ≡ write_number ratio_format (exact_ratio N D) = sym (ap written_outcome e) ∙ answer in
-      let best : BestForRatio f N D v = subst (λ (o : Outcome ℕ). WhenDone o (λ u. BestForRatio f N D u)) (ap written_outcome e) w.1 in
+      let made : done v ≡ write_number ratio_format (exact_ratio N D) = sym e ∙ answer in
+      let best : BestForRatio f N D v = subst (λ (o : Outcome ℕ). WhenDone o (λ u. BestForRatio f N D u)) e w.1 in
       (go made (ℕ_discrete D 0), subst (λ (g : Format). BestForRatio g N D v) fe best)
     where
       go : done v ≡ write_number ratio_format (exact_ratio N D) → Dec (D ≡ 0) → Word v ≡ parts_ratio N D
       go made (yes z) = absurd (no_stop (over_zero z ∙ sym made))
       go made (no z) = let pos : 1 ≤ D = omega arith in ap Word (done_inj (made ∙ sym (ratio_written N D pos))) ∙ sym (parts_some N D pos)
 
-  pub parts_stop : (s : Stop) → a ≡ Written.Stopped s → (Void ≡ parts_ratio N D) × BestRatio N D Void
+  pub parts_stop : (s : Stop) → a ≡ Err s → (Void ≡ parts_ratio N D) × BestRatio N D Void
   unfolding parts_ratio BestRatio
   parts_stop s e = (go (ℕ_discrete D 0), tt)
     where
       go : Dec (D ≡ 0) → Void ≡ parts_ratio N D
       go (yes z) = rw (eq-eqb D 0 z) refl
-      go (no z) = let pos : 1 ≤ D = omega arith in absurd (no_stop (sym (ap written_outcome e) ∙ answer ∙ sym (ratio_written N D pos)))
+      go (no z) = let pos : 1 ≤ D = omega arith in absurd (no_stop (sym e ∙ answer ∙ sym (ratio_written N D pos)))
 
 -- the parts of whatever word are small
 value_small : (s : Bool) (n d : ℕ) → n < 2 ^ 15 → d < 2 ^ 15 → ((pair_of (fixed_value s n d)).numerator < 2 ^ 15) × ((pair_of (fixed_value s n d)).denominator < 2 ^ 15)

@@ -1,13 +1,11 @@
 -- A night: the sums of its breaths, void ones left out, and its ratio.
-use Rattle.std.specs.Prelude.{ℕ, ◌+◌, ◌^◌, Bool, true, false, ◌&&◌, List, [], ◌∷◌, ◌==◌, nat_lt}
+use Rattle.std.specs.Prelude.{ℕ, Option, Some, None, ◌+◌, ◌^◌, Bool, true, false, ◌&&◌, List, [], ◌∷◌, ◌==◌, nat_lt}
 use Rattle.std.specs.Prelude.{if◌then◌else◌}
 use Rattle.slash.specs.Answers.{Outcome, done, unnumbered}
 use Rattle.breaths.specs.Ratios.{ratio_word}
 use Rattle.breaths.specs.Breaths.{is_void}
 use Rattle.breaths.specs.declared.breath.Breath.{Breath}
 use Rattle.breaths.specs.declared.sums.Sums.{Sums}
-use Rattle.breaths.specs.declared.sums.Added.{Added}
-use Rattle.breaths.specs.declared.sums.Added.TheVariants.{Done, Full}
 use Rattle.breaths.specs.declared.ratio.Ratio.{Ratio}
 use Rattle.breaths.specs.declared.ratio.Ratio.TheVariants.{Void, Word}
 
@@ -49,9 +47,9 @@ unfoldable pub fits : Sums → Bool
 fits s = nat_lt s.inspiration (2 ^ 64) && nat_lt s.whole (2 ^ 64)
 
 -- The outcome that each answer of adding a breath stands for.
-abbrev pub added_outcome : Added → Outcome Sums
-added_outcome (Done s) = done s
-added_outcome Full = unnumbered
+abbrev pub added_outcome : Option Sums → Outcome Sums
+added_outcome (Some s) = done s
+added_outcome None = unnumbered
 
 -- What adding a breath comes to: the sums with it, where 64 bits have room for them. (Those of every night have: `night_fits`.)
 unfoldable pub one_more : (rate : ℕ) → Sums → Breath → Outcome Sums

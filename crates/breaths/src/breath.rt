@@ -1,12 +1,12 @@
 // A breath's durations, and its ratio.
 ghost use Rattle.std.specs.Prelude.{◌≡◌};
-ghost use Rattle.slash.specs.Answers.{written_outcome, WhenDone};
+ghost use Rattle.slash.specs.Answers.{WhenDone};
 ghost use Rattle.breaths.specs.Breaths.{breath_of, is_void, breath_ratio, breath_word, breath_stored};
 ghost use Rattle.breaths.specs.Ratios.{word_of, ratio_of, BestRatio};
 
-use crate::rate::{Rate, RateMade};
+use crate::rate::Rate;
 use crate::ratio::Ratio;
-use slash::Written;
+use slash::Stop;
 
 // Breathing in, and the whole breath, in ticks of a clock that is 32 bits wide.
 #[derive(Clone, Copy)]
@@ -21,8 +21,8 @@ impl Breath {
         ensures { result ≡ breath_of onset peak next }
     {
         Breath {
-            inspiration: std::num::wrapping_sub_u32(peak, onset),
-            whole: std::num::wrapping_sub_u32(next, onset),
+            inspiration: peak.wrapping_sub(onset),
+            whole: next.wrapping_sub(onset),
         }
     }
 
@@ -50,16 +50,12 @@ impl Breath {
 
 // The word that a recorder stores for the breath between two onsets, at a rate: 0 where it is void. Stop
 // 19: a rate out of 1 to 4096.
-pub fn stored_word(rate: u64, onset: u32, peak: u32, next: u32) -> Written
-    ensures defined { written_outcome result ≡ breath_stored rate onset peak next }
-    ensures best { WhenDone (written_outcome result) (λ w. BestRatio (breath_of onset peak next).inspiration (breath_of onset peak next).whole (ratio_of w)) }
+pub fn stored_word(rate: u64, onset: u32, peak: u32, next: u32) -> Result<u64, Stop>
+    ensures defined { result ≡ breath_stored rate onset peak next }
+    ensures best { WhenDone result (λ w. BestRatio (breath_of onset peak next).inspiration (breath_of onset peak next).whole (ratio_of w)) }
 {
-    match Rate::make(rate) {
-        RateMade::Done(known) => {
-            let b = Breath::between(onset, peak, next);
-            let r = b.ratio(known);
-            Written::Done(r.word())
-        }
-        RateMade::Stopped(stop) => Written::Stopped(stop),
-    }
+    let known = Rate::make(rate)?;
+    let b = Breath::between(onset, peak, next);
+    let r = b.ratio(known);
+    Ok(r.word())
 }

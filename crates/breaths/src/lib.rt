@@ -9,6 +9,6 @@ mod ratio;
 mod sums;
 
 pub use breath::{Breath, stored_word};
-pub use rate::{Rate, RateMade};
+pub use rate::Rate;
 pub use ratio::Ratio;
-pub use sums::{Added, Sums};
+pub use sums::Sums;

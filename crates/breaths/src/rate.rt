@@ -1,6 +1,6 @@
 // A recording's tick rate.
 ghost use Rattle.std.specs.Prelude.{◌≡◌, ◌*◌};
-ghost use Rattle.breaths.specs.Rates.{rate_outcome, make_rate};
+ghost use Rattle.breaths.specs.Rates.{make_rate};
 
 use slash::Stop;
 
@@ -8,13 +8,6 @@ use slash::Stop;
 #[derive(Clone, Copy)]
 pub struct Rate {
     ticks: u32,
-}
-
-// What making a rate answers.
-#[derive(Clone, Copy)]
-pub enum RateMade {
-    Done(Rate),
-    Stopped(Stop),
 }
 
 // A breath of more seconds is void.
@@ -28,13 +21,13 @@ impl Rate {
     // The number of the stop for any other rate.
     pub const REFUSED: u64 = 19;
 
-    pub fn make(ticks: u64) -> RateMade
-        ensures { rate_outcome result ≡ make_rate ticks }
+    pub fn make(ticks: u64) -> Result<Rate, Stop>
+        ensures { result ≡ make_rate ticks }
     {
         if (ticks < Rate::LEAST) | (Rate::MOST < ticks) {
-            return RateMade::Stopped(Stop::plain(Rate::REFUSED));
+            return Err(Stop::plain(Rate::REFUSED));
         }
-        RateMade::Done(Rate {
+        Ok(Rate {
             ticks: ticks as u32,
         })
     }

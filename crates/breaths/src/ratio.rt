@@ -3,7 +3,7 @@ ghost use Rattle.std.specs.Prelude.{◌≡◌};
 ghost use Rattle.breaths.specs.Ratios.{ratio_format, word_of, ratio_of, parts_ratio, BestRatio};
 
 use crate::proportion::proportion_word;
-use slash::{Format, Written};
+use slash::Format;
 
 // The word, or none where there is nothing to take the ratio of.
 #[derive(Clone, Copy)]
@@ -11,9 +11,6 @@ pub enum Ratio {
     Void,
     Word(u64),
 }
-
-// The largest number of 32 bits.
-const MOST: u64 = 4294967295;
 
 impl Ratio {
     // The format of every ratio's word.
@@ -50,12 +47,12 @@ impl Ratio {
         ensures defined { result ≡ parts_ratio n d }
         ensures best { BestRatio n d result }
     {
-        if (n != 0) & (n <= d) & (n <= MOST) {
+        if (n != 0) & (n <= d) & (n <= u32::MAX as u64) {
             return Ratio::Word(proportion_word(n as u32, d));
         }
         match slash::round_word(Ratio::format(), n, d) {
-            Written::Done(w) => Ratio::Word(w),
-            Written::Stopped(_) => Ratio::Void,
+            Ok(w) => Ratio::Word(w),
+            Err(_) => Ratio::Void,
         }
     }
 }

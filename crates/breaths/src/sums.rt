@@ -14,35 +14,18 @@ pub struct Sums {
     pub whole: u64,
 }
 
-// The sums with one breath more, or that a sum has no room for it. A night's sums always have.
-#[derive(Clone, Copy)]
-pub enum Added {
-    Done(Sums),
-    Full,
-}
-
-// The largest sum that has room.
-const MOST: u64 = 18446744073709551615;
-
 impl Sums {
-    // The sums with one breath more, at a rate: a void breath is left out.
-    pub fn with_breath(self, b: Breath, rate: Rate) -> Added
+    // The sums with one breath more, at a rate: a void breath is left out. None where a sum has no room
+    // for it, which never is so of a night's.
+    pub fn with_breath(self, b: Breath, rate: Rate) -> Option<Sums>
         ensures { added_outcome result ≡ one_more rate.ticks self b }
     {
         if b.is_void(rate) {
-            return Added::Done(self);
+            return Some(self);
         }
-        let inspiration = b.inspiration as u64;
-        let whole = b.whole as u64;
-        if MOST - inspiration < self.inspiration {
-            return Added::Full;
-        }
-        if MOST - whole < self.whole {
-            return Added::Full;
-        }
-        Added::Done(Sums {
-            inspiration: self.inspiration + inspiration,
-            whole: self.whole + whole,
+        Some(Sums {
+            inspiration: self.inspiration.checked_add(b.inspiration as u64)?,
+            whole: self.whole.checked_add(b.whole as u64)?,
         })
     }
 

@@ -1,7 +1,7 @@
 -- Text in a lent list.
-use Rattle.std.specs.Prelude.{ℕ, ◌+◌, List, ◌++◌, ◌≡◌, length, drop}
+use Rattle.std.specs.Prelude.{ℕ, Ok, Err, ◌+◌, List, ◌++◌, ◌≡◌, length, drop}
 use Rattle.std.proofs.lemmas.List.Edits.{sets}
-use Rattle.slash.specs.Answers.{Outcome, stop, done, ◌then◌}
+use Rattle.slash.specs.Answers.{Outcome, done, ◌then◌}
 
 -- o with the bytes of t from place k on, and every other place as it was; what runs past o's end is dropped.
 unfoldable pub put : List ℕ → ℕ → List ℕ → List ℕ
@@ -19,8 +19,8 @@ length_of o = o then λ text. done (length text)
 
 -- What the lent list is then: as it was on a stop; else with the text at its start.
 unfoldable pub list_after : Outcome (List ℕ) → List ℕ → List ℕ
-list_after (stop number place) old = old
-list_after (done text) old = at_start text old
+list_after (Err s) old = old
+list_after (Ok text) old = at_start text old
 
 -- ---- a store
 

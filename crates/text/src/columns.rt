@@ -10,7 +10,6 @@ ghost use Rattle.breaths.specs.Steps.{Proportion, PrintableRatio};
 
 use crate::number::{digit, put_byte, put_decimal, put_hexadecimal, put_text};
 use breaths::Ratio;
-use slash::Checked;
 
 // Two parts, as a word has them.
 #[derive(Clone, Copy)]
@@ -24,7 +23,7 @@ fn word_fraction(w: u64) -> Fraction
     requires { w < 2 ^ 31 }
     ensures { pair result.numerator result.denominator ≡ fraction_of w }
 {
-    let Checked::Good(x) = slash::check(Ratio::format(), w) else {
+    let Ok(x) = slash::check(Ratio::format(), w) else {
         return Fraction {
             numerator: 0,
             denominator: 0,

@@ -8,13 +8,13 @@ returns-in_default c = absurd (unsigned_good _ _ c.format.ensures c.requires (ch
 
 pub overflow_cast-result : goal.overflow_cast-result
 overflow_cast-result c =
-    let v = check_value _ _ c.check.ensures c.in-Good.is c.value.ensures in
+    let v = check_value _ _ c.check.ensures c.in-Ok.is c.value.ensures in
     omega (arith, parts_small _ _ c.format.ensures _ v _ c.parts_of-p.ensures)
 
 pub overflow_cast-result-2 : goal.overflow_cast-result-2
 overflow_cast-result-2 c =
-    let v = check_value _ _ c.check.ensures c.in-Good.is c.value.ensures in
+    let v = check_value _ _ c.check.ensures c.in-Ok.is c.value.ensures in
     omega (arith, parts_small _ _ c.format.ensures _ v _ c.parts_of-p.ensures)
 
 pub returns : goal.returns
-returns c = fraction_parts _ _ c.format.ensures _ (check_value _ _ c.check.ensures c.in-Good.is c.value.ensures) _ c.parts_of-p.ensures
+returns c = fraction_parts _ _ c.format.ensures _ (check_value _ _ c.check.ensures c.in-Ok.is c.value.ensures) _ c.parts_of-p.ensures

@@ -13,12 +13,12 @@ returns-then-n-d c =
     let both = (let t = short_parts c.args.n c.args.d c.if-n-d.true in short_word _ _ (omega (arith, t.0, t.1)) _ c.proportion_word.ensures) in
     record { defined = both.0; best = both.1 }
 
-pub returns-in-Done : goal.returns-in-Done
-returns-in-Done c =
-    let both = (parts_done _ _ _ c.format.ensures _ (c.round_word.ensures.written, c.round_word.ensures.best) _ c.in-Done.is) in
+pub returns-in-Ok : goal.returns-in-Ok
+returns-in-Ok c =
+    let both = (parts_done _ _ _ c.format.ensures _ (c.round_word.ensures.written, c.round_word.ensures.best) _ c.in-Ok.is) in
     record { defined = both.0; best = both.1 }
 
-pub returns-in-Stopped : goal.returns-in-Stopped
-returns-in-Stopped c =
-    let both = (parts_stop _ _ _ c.format.ensures _ (c.round_word.ensures.written, c.round_word.ensures.best) _ c.in-Stopped.is) in
+pub returns-in-Err : goal.returns-in-Err
+returns-in-Err c =
+    let both = (parts_stop _ _ _ c.format.ensures _ (c.round_word.ensures.written, c.round_word.ensures.best) _ c.in-Err.is) in
     record { defined = both.0; best = both.1 }
