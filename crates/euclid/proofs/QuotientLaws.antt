@@ -14,20 +14,20 @@ use lib.ListN.{length, take, drop, set, length-set, length-append, take-append-d
 use lib.Seq.{length-take-le, take-suc-set, drop-set-lt, drop-drop}
 use lib.Dec.{leb, ltb}
 use borrow.Author.Tests.{le-leb, lt-leb, leb-true, leb-false, ltb-true, ltb-false}
-use Rattle.std.specs.Prelude.{if◌then◌else◌}
+use Rattle.std.specs.Prelude.{if◌then◌else◌, Ok, Err}
 use Rattle.convergents.specs.Convergents.{euclid, quotients}
 use Rattle.convergents.specs.Pairs.{Pair, pair}
 use Rattle.slash.specs.Answers.{Outcome, stop, done, ◌then◌}
 use Rattle.slash.specs.Bits.{bits, bit}
 use Rattle.slash.specs.Formats.{known, k_fits, check_format, width_of, format_of}
 use Rattle.slash.specs.Numbers.{parts_of, pair_of}
-use Rattle.slash.specs.Reading.{fixed_value, fixed_number, number_of, number_in, is_above, check_word, checked_word, check_outcome, read_word}
-use Rattle.slash.proofs.AnswerLaws.{then_stop, then_done, done_inj, no_stop}
+use Rattle.slash.specs.Reading.{fixed_value, fixed_number, number_of, number_in, is_above, check_word, checked_word, read_word}
+use Rattle.slash.proofs.AnswerLaws.{then_stop, then_done, done_inj, stop_inj, no_stop}
 use Rattle.slash.proofs.FormatLaws.{known_k, largest_below}
 use Rattle.slash.proofs.ReadingLaws.{checked_known, checked_number, checked_read, check_good, check_value, read_stops}
 use Rattle.slash.proofs.CanonicalLaws.{held_most, read_known, read_held}
 use Rattle.slash.specs.declared.format.Format.{Format}
-use Rattle.slash.specs.declared.reading.Checked.{Checked}
+use Rattle.slash.specs.declared.answer.Stop.{Stop}
 use Rattle.slash.specs.declared.reading.GoodWord.{GoodWord}
 use Rattle.slash.specs.declared.number.Number.{Number}
 use Rattle.slash.specs.declared.number.Parts.{Parts}
@@ -126,7 +126,7 @@ pub record WordParts (f : Format) (w : ℕ) (p : Parts) : Type 0 where
   pub same : pair p.numerator p.denominator ≡ pair_of (number_of f w).value
 
 -- what `check`, `value` and `parts_of` answered of it
-pub word_parts : (f : Format) (w : ℕ) {r : Checked} → check_outcome r ≡ checked_word f w → {g : GoodWord} → r ≡ Checked.Good g → {v : Value}
+pub word_parts : (f : Format) (w : ℕ) {r : Outcome GoodWord} → r ≡ checked_word f w → {g : GoodWord} → r ≡ Ok g → {v : Value}
     → v ≡ (number_in g.format g.word).value → {p : Parts} → p ≡ parts_of v → WordParts f w p
 unfolding pair_of
 word_parts f w h e ve pe =
@@ -161,16 +161,16 @@ module _ {f : Format} {w : ℕ} {p : Parts} (g : WordParts f w p) where
       (then_done _ word_done s.0, s.1 ∙ ap (λ (k : Outcome (List ℕ)). quotients_after k list) word_done)
 
 -- a word that reading stops
-module _ (f : Format) (w : ℕ) {n p : ℕ} (e : stop n p ≡ read_word f w) where
-  word_stop : stop n p ≡ word_quotients f w
+module _ (f : Format) (w : ℕ) {s : Stop} (e : Err s ≡ read_word f w) where
+  word_stop : Err s ≡ word_quotients f w
   unfolding word_quotients
   word_stop = then_stop _ e
 
-  pub count_stop : stop n p ≡ count_alone f w
+  pub count_stop : Err s ≡ count_alone f w
   unfolding count_alone
   count_stop = then_stop _ word_stop
 
-  pub quotients_stop : (list : List ℕ) → (stop n p ≡ quotient_count f w list) × (list ≡ quotients_after (word_quotients f w) list)
+  pub quotients_stop : (list : List ℕ) → (Err s ≡ quotient_count f w list) × (list ≡ quotients_after (word_quotients f w) list)
   unfolding quotient_count quotients_after
   quotients_stop list = (then_stop _ word_stop, ap (λ (o : Outcome (List ℕ)). quotients_after o list) word_stop)
 
@@ -180,8 +180,8 @@ unfolding word_quotients
 quotients_at_most f w new e = go (read_word f w) refl
   where
     go : (o : Outcome Number) → read_word f w ≡ o → length new ≤ 2 * f.k
-    go (stop n p) r = absurd (no_stop (sym (ap (λ (o : Outcome Number). o then λ x. done (value_quotients x.value)) r) ∙ e))
-    go (done x) r =
+    go (Err t) r = absurd (no_stop (sym (ap (λ (o : Outcome Number). o then λ x. done (value_quotients x.value)) r) ∙ e))
+    go (Ok x) r =
         let h = read_known f w x r in
         let v : Value = x.value in
         let same : value_quotients v ≡ new = done_inj (sym (ap (λ (o : Outcome Number). o then λ y. done (value_quotients y.value)) r) ∙ e) in
@@ -203,8 +203,8 @@ module _ (list : List ℕ) where
   listed_short n h = rw (lt-leb _ _ h) refl
 
   long_is : (o : Outcome ℕ) (n : ℕ) → ((o then listed list) ≡ done n) ↔ ((o ≡ done n) × (n ≤ length list))
-  long_is (stop m p) n = (λ e. absurd (no_stop e), λ e. absurd (no_stop e.0))
-  long_is (done m) n = (
+  long_is (Err t) n = (λ e. absurd (no_stop e), λ e. absurd (no_stop e.0))
+  long_is (Ok m) n = (
     pick (leb m (length list)) refl,
     λ e. listed_long m (subst (λ (x : ℕ). x ≤ length list) (sym (done_inj e.0)) e.1) ∙ e.0,
   )
@@ -215,8 +215,8 @@ module _ (list : List ℕ) where
 
   short_is : (o : Outcome ℕ) → (o ≡ stop 7 0 → ⊥)
       → ((o then listed list) ≡ stop 7 0) ↔ ((n : ℕ) × (o ≡ done n) × (length list < n))
-  short_is (stop m p) never = (λ e. absurd (never e), λ e. absurd (no_stop e.1))
-  short_is (done m) never = (
+  short_is (Err t) never = (λ e. absurd (never e), λ e. absurd (no_stop e.1))
+  short_is (Ok m) never = (
     pick (leb m (length list)) refl,
     λ e. listed_short m (subst (λ (x : ℕ). length list < x) (sym (done_inj e.1)) e.2),
   )
@@ -226,12 +226,12 @@ module _ (list : List ℕ) where
       pick false t e = (m, refl, leb-false _ _ t)
 
   stopped_is : (o : Outcome ℕ) (n p : ℕ) → (n ≡ 7 → ⊥) → ((o then listed list) ≡ stop n p) ↔ (o ≡ stop n p)
-  stopped_is (stop m i) n p other = (λ e. e, λ e. e)
-  stopped_is (done m) n p other = (pick (leb m (length list)), λ e. absurd (no_stop (sym e)))
+  stopped_is (Err t) n p other = (λ e. e, λ e. e)
+  stopped_is (Ok m) n p other = (pick (leb m (length list)), λ e. absurd (no_stop (sym e)))
     where
       pick : (b : Bool) → (if b then done m else stop 7 0) ≡ stop n p → done m ≡ stop n p
       pick true e = e
-      pick false e = absurd (other cc)
+      pick false e = absurd (other (sym (stop_inj e).0))
 
 module _ (f : Format) (w : ℕ) where
   -- The count alone has the stops of reading, and so no stop 7.
@@ -241,11 +241,10 @@ module _ (f : Format) (w : ℕ) where
     where
       go : (o : Outcome Number) → read_word f w ≡ o → ((o then λ x. done (value_quotients x.value)) then λ new. done (length new)) ≡ stop n p
           → ((n ≡ 1) ⊎ ((n ≡ 4) ⊎ (n ≡ 5))) × (p ≡ 0)
-      go (stop m i) r e =
-          let a : m ≡ n = cc in
-          let b : i ≡ p = cc in
-          read_stops f w (r ∙ ap (λ (x : ℕ). stop x i) a ∙ ap (λ (x : ℕ). stop n x) b)
-      go (done x) r e = absurd (no_stop (sym e))
+      go (Err t) r e =
+          let same : t ≡ record { number = n; place = p } = cc in
+          read_stops f w (r ∙ ap Err same)
+      go (Ok x) r e = absurd (no_stop (sym e))
 
   never_7 : count_alone f w ≡ stop 7 0 → ⊥
   never_7 e = ⊎_elim (λ a. omega arith) (⊎_elim (λ b. omega arith) (λ c. omega arith)) (count_stops e).0
@@ -257,8 +256,8 @@ module _ (f : Format) (w : ℕ) (list : List ℕ) where
   list_by_count = go (word_quotients f w)
     where
       go : (o : Outcome (List ℕ)) → (o then count_in list) ≡ ((o then λ new. done (length new)) then listed list)
-      go (stop n p) = refl
-      go (done new) = refl
+      go (Err t) = refl
+      go (Ok new) = refl
 
   -- The same in the paper's words.
   pub record CountTells : Type 0 where

@@ -1,6 +1,6 @@
 -- The partial quotients of a word's finite absolute value: their count alone, and they themselves in a lent list.
 use Rattle.std.specs.Prelude.{ℕ, List, [], ◌++◌, leb, length, drop}
-use Rattle.std.specs.Prelude.{if◌then◌else◌}
+use Rattle.std.specs.Prelude.{if◌then◌else◌, Ok, Err}
 use Rattle.convergents.specs.Convergents.{quotients}
 use Rattle.slash.specs.Answers.{Outcome, stop, done, ◌then◌}
 use Rattle.slash.specs.Reading.{read_word}
@@ -37,5 +37,5 @@ unfoldable pub quotient_count : Format → ℕ → List ℕ → Outcome ℕ
 quotient_count f w list = word_quotients f w then count_in list
 
 unfoldable pub quotients_after : Outcome (List ℕ) → List ℕ → List ℕ
-quotients_after (stop number place) list = list
-quotients_after (done new) list = stored_in list new
+quotients_after (Err s) list = list
+quotients_after (Ok new) list = stored_in list new

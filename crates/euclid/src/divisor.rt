@@ -1,9 +1,8 @@
 // The greatest common divisor of a word's stored parts.
 ghost use Rattle.std.specs.Prelude.{◌≡◌};
-ghost use Rattle.slash.specs.Answers.{answer_outcome};
 ghost use Rattle.euclid.specs.Divisor.{gcd_of, value_gcd, gcd_word};
 
-use slash::{Answer, Checked, Format, Value};
+use slash::{Format, Stop, Value};
 
 // Euclid's algorithm.
 fn common_divisor(n: u64, d: u64) -> u64
@@ -31,14 +30,10 @@ fn value_divisor(v: Value) -> u64
 }
 
 // The greatest common divisor of the stored parts of a word; 0 where it is no nonzero fraction.
-pub fn gcd(f: Format, w: u64) -> Answer
-    ensures { answer_outcome result ≡ gcd_word f w }
+pub fn gcd(f: Format, w: u64) -> Result<u64, Stop>
+    ensures { result ≡ gcd_word f w }
 {
-    match slash::check(f, w) {
-        Checked::Stopped(s) => Answer::Stopped(s),
-        Checked::Good(x) => {
-            let v = x.value();
-            Answer::Done(value_divisor(v))
-        }
-    }
+    let x = slash::check(f, w)?;
+    let v = x.value();
+    Ok(value_divisor(v))
 }

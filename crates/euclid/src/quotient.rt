@@ -1,11 +1,10 @@
 // The partial quotients of a word's finite absolute value: their count alone, and they themselves in a
 // lent list. No word's parts take more than 32 bits.
 ghost use Rattle.std.specs.Prelude.{◌≡◌, ◌++◌, ◌≤◌, ltb, length, drop};
-ghost use Rattle.slash.specs.Answers.{answer_outcome};
 ghost use Rattle.euclid.specs.Quotients.{count_alone, count_in, stored_in, word_quotients, quotient_count, quotients_after};
 ghost use Rattle.convergents.specs.Convergents.{quotients};
 
-use slash::{Answer, Checked, Format, Stop};
+use slash::{Format, Stop};
 
 // How many quotients n/d has, by Euclid's algorithm with the nearest rest: where more than half of the
 // divisor is left, the quotient that follows is 1, and one division counts both. The quotients 0 and 1
@@ -88,42 +87,34 @@ fn are_more(n: u32, d: u32, most: usize, places: usize) -> bool
     false
 }
 
-fn list_quotients(n: u32, d: u32, most: usize, list: &mut [u32]) -> Answer
+fn list_quotients(n: u32, d: u32, most: usize, list: &mut [u32]) -> Result<u64, Stop>
     requires { length (quotients n d) ≤ most }
-    ensures counted { answer_outcome result ≡ count_in list.old (quotients n d) }
+    ensures counted { result ≡ count_in list.old (quotients n d) }
     ensures stored { list.new ≡ stored_in list.old (quotients n d) }
 {
     if are_more(n, d, most, list.len()) {
-        return Answer::Stopped(Stop::plain(Stop::LIST));
+        return Err(Stop::plain(Stop::LIST));
     }
-    Answer::Done(store(n, d, list) as u64)
+    Ok(store(n, d, list) as u64)
 }
 
 // How many quotients a word has.
-pub fn quotient_count(f: Format, w: u64) -> Answer
-    ensures { answer_outcome result ≡ count_alone f w }
+pub fn quotient_count(f: Format, w: u64) -> Result<u64, Stop>
+    ensures { result ≡ count_alone f w }
 {
-    match slash::check(f, w) {
-        Checked::Stopped(s) => Answer::Stopped(s),
-        Checked::Good(x) => {
-            let p = slash::parts_of(x.value());
-            Answer::Done(count(p.numerator as u32, p.denominator as u32) as u64)
-        }
-    }
+    let x = slash::check(f, w)?;
+    let p = slash::parts_of(x.value());
+    Ok(count(p.numerator as u32, p.denominator as u32) as u64)
 }
 
 // The quotients of a word, first one first, at the start of the list, and their count.
-pub fn quotients(f: Format, w: u64, list: &mut [u32]) -> Answer
-    ensures counted { answer_outcome result ≡ quotient_count f w list.old }
+pub fn quotients(f: Format, w: u64, list: &mut [u32]) -> Result<u64, Stop>
+    ensures counted { result ≡ quotient_count f w list.old }
     ensures stored { list.new ≡ quotients_after (word_quotients f w) list.old }
 {
-    match slash::check(f, w) {
-        Checked::Stopped(s) => Answer::Stopped(s),
-        Checked::Good(x) => {
-            let p = slash::parts_of(x.value());
-            // No word has more than 2k.
-            let most = (2 * f.k) as usize;
-            list_quotients(p.numerator as u32, p.denominator as u32, most, list)
-        }
-    }
+    let x = slash::check(f, w)?;
+    let p = slash::parts_of(x.value());
+    // No word has more than 2k.
+    let most = (2 * f.k) as usize;
+    list_quotients(p.numerator as u32, p.denominator as u32, most, list)
 }
