@@ -8,11 +8,13 @@ use native.Mathlib.Omega.{arith}
 use native.Mathlib.Decide.{ℕ_discrete, dec_le}
 use lib.Dec.{eqb}
 use borrow.Author.Tests.{lt-ltb, le-ltb, eq-eqb, ne_eqb}
-use Rattle.slash.specs.Answers.{stop, done}
+use Rattle.std.specs.Prelude.{Err}
+use Rattle.slash.specs.Answers.{done}
 use Rattle.slash.specs.Reading.{number_in, check_word, read_word}
 use Rattle.slash.specs.Numbers.{is_nan, parts_of}
 use Rattle.slash.proofs.ReadingLaws.{checked_number, checked_read}
 use Rattle.slash.proofs.AnswerLaws.{then_stop, then_done, at_both}
+use Rattle.slash.specs.declared.answer.Stop.{Stop}
 use Rattle.slash.specs.declared.format.Format.{Format}
 use Rattle.slash.specs.declared.number.Parts.{Parts}
 use Rattle.slash.specs.declared.number.Value.{Value}
@@ -153,12 +155,12 @@ compare_fractions v w p q ve we r re = at_both compare_values ve we re
 
 -- the answers of `compare`
 module _ (f : Format) (left right : ℕ) where
-  pub compare_left : {n p : ℕ} → stop n p ≡ read_word f left → stop n p ≡ compare_words f left right
+  pub compare_left : {s : Stop} → Err s ≡ read_word f left → Err s ≡ compare_words f left right
   unfolding compare_words
   compare_left e = then_stop _ e
 
   module _ (x : Number) (xe : done x ≡ read_word f left) where
-    pub compare_right : {n p : ℕ} → stop n p ≡ read_word f right → stop n p ≡ compare_words f left right
+    pub compare_right : {s : Stop} → Err s ≡ read_word f right → Err s ≡ compare_words f left right
     unfolding compare_words
     compare_right e = then_done _ xe (then_stop _ e)
 

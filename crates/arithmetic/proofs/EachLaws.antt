@@ -1,19 +1,21 @@
 -- The vector form: its stops in their order, and that the operation stops as its words' check does (`binary_agrees`). Assumes nothing.
-use mathlib.Core.Path.{◌≡◌, refl, sym, ◌∙◌}
+use mathlib.Core.Path.{◌≡◌, refl, sym, ap, ◌∙◌}
 use mathlib.Core.Logic.{◌⊎◌, inl, inr}
 use mathlib.Core.Bool.{true, false, and-false}
 use mathlib.Core.List.{List, map}
 use Prim.Native.Nat.{ℕ}
 use lib.ListN.{length}
 use borrow.Author.Tests.{eq-eqb, ne_eqb}
-use Rattle.slash.specs.Answers.{stop, done, completion_outcome}
+use Rattle.std.specs.Prelude.{Ok, Err}
+use Rattle.std.specs.Result.{result_unwrap_or}
+use Rattle.slash.specs.Steps.{or_zero}
+use Rattle.slash.specs.Answers.{Outcome, stop, done}
 use Rattle.slash.specs.declared.answer.Stop.{Stop}
 use Rattle.slash.specs.Formats.{known, check_format}
 use Rattle.slash.specs.declared.format.Format.{Format}
 use Rattle.vectors.specs.Each.{each, vector_after, stop_only, EachPlace}
 use Rattle.vectors.specs.Places.{Operands, places, same_length}
 use Rattle.vectors.specs.Checks.{check_operands, checked_pairs}
-use Rattle.slash.specs.declared.answer.Completion.{Completion}
 use Rattle.slash.proofs.AnswerLaws.{then_stop}
 use Rattle.slash.proofs.FormatLaws.{format_good}
 use Rattle.vectors.proofs.EachLaws.{each_stopped, each_done}
@@ -24,7 +26,7 @@ use Rattle.arithmetic.specs.Steps.{binary_in}
 use Rattle.arithmetic.proofs.OperationLaws.{binary_stop_only, binary_best}
 
 module _ (f : Format) (code : ℕ) (left right out : List ℕ) where
-  pub binary_each_format : {n p : ℕ} → stop n p ≡ check_format f → stop n p ≡ binary_each f code left right out
+  pub binary_each_format : {s : Stop} → Err s ≡ check_format f → Err s ≡ binary_each f code left right out
   unfolding binary_each
   binary_each_format e = then_stop _ e
 
@@ -49,13 +51,22 @@ unfolding check_operands
 binary_agrees f code h i x = binary_stop_only f code x.left x.right h i
 
 module _ (f : Format) (code : ℕ) (left right out : List ℕ) where
-  module _ (h : known f ≡ true) (i : is_binary code ≡ true) (e : length left ≡ length right) (g : length left ≡ length out) (res : Completion) (re : completion_outcome res ≡ checked_pairs f left right) where
-    pub binary_each_stopped : (s : Stop) → res ≡ Completion.Stopped s
-        → (stop s.number s.place ≡ stop_only (binary_each f code left right out)) × ((out ≡ vector_after (binary_each f code left right out) out) × Unit {0})
+  module _ (h : known f ≡ true) (i : is_binary code ≡ true) (e : length left ≡ length right) (g : length left ≡ length out) (res : Outcome (Unit {0})) (re : res ≡ checked_pairs f left right) where
+    pub binary_each_stopped : (s : Stop) → res ≡ Err s
+        → (Err s ≡ stop_only (binary_each f code left right out)) × ((out ≡ vector_after (binary_each f code left right out) out) × Unit {0})
     unfolding BestBinary
     binary_each_stopped = each_stopped (λ x. binary_word f code x.left x.right) (check_operands f) (binary_agrees f code h i) (BestBinary f code) (λ x. binary_best f code x.left x.right) (places left right) out (binary_each f code left right out) (binary_each_all f code left right out h i e g) res (re ∙ sym (pairs_all f left right h e))
 
-    pub binary_each_done : res ≡ Completion.Done → (new : List ℕ) → new ≡ map (binary_in f code) (places left right)
+    pub binary_each_done : res ≡ Ok tt → (new : List ℕ) → new ≡ map (binary_in f code) (places left right)
         → (done tt ≡ stop_only (binary_each f code left right out)) × ((new ≡ vector_after (binary_each f code left right out) out) × EachPlace (BestBinary f code) (places left right) new)
     unfolding BestBinary binary_in
     binary_each_done = each_done (λ x. binary_word f code x.left x.right) (check_operands f) (binary_agrees f code h i) (BestBinary f code) (λ x. binary_best f code x.left x.right) (places left right) out (binary_each f code left right out) (binary_each_all f code left right out h i e g) res (re ∙ sym (pairs_all f left right h e))
+
+-- what is stored at a place
+pub stored_at : (f : Format) (code : ℕ) (x : Operands) (o : Outcome ℕ) → o ≡ binary_word f code x.left x.right → (w : ℕ) → w ≡ result_unwrap_or o 0 → w ≡ binary_in f code x
+unfolding binary_in or_zero
+stored_at f code x o e w h = h ∙ go o ∙ ap or_zero e
+  where
+    go : (p : Outcome ℕ) → result_unwrap_or p 0 ≡ or_zero p
+    go (Ok v) = refl
+    go (Err s) = refl

@@ -13,22 +13,23 @@ use native.Mathlib.Decide.{ℕ_discrete, dec_le}
 use lib.Dec.{eqb}
 use lib.IntN.{ℤ, pos, neg_ℤ, ◌+ℤ◌, ◌-ℤ◌, +ℤ_comm, +ℤ-neg_ℤ_cancel, neg_ℤ-neg_ℤ, neg_ℤ-+ℤ}
 use borrow.Author.Tests.{le-leb, lt-leb, eq-eqb, ne_eqb}
+use Rattle.std.specs.Prelude.{Ok, Err, IsOk}
 use Rattle.std.specs.Prelude.{if◌then◌else◌}
 use Rattle.convergents.specs.Rounding.{round}
 use Rattle.slash.specs.Answers.{Outcome, stop, done, ◌then◌, WhenDone}
-use Rattle.slash.specs.Steps.{or_zero}
 use Rattle.slash.specs.Formats.{known, check_format, holds}
 use Rattle.slash.specs.Numbers.{signed_of, is_nan, parts_of, pair_of}
 use Rattle.slash.specs.Reading.{number_of, number_in, check_word}
 use Rattle.slash.specs.Writing.{nan_word, word_for, is_over_zero, write_number}
 use Rattle.slash.specs.Best.{ExactSize, ◌over◌, BestForSize, BestForValue}
-use Rattle.slash.proofs.AnswerLaws.{no_stop, then_stop, then_done, checked_stop, checked_made, some_not, if_case, when_checked}
+use Rattle.slash.proofs.AnswerLaws.{done_inj, no_stop, then_stop, then_done, checked_stop, checked_made, some_not, if_case, when_checked}
 use Rattle.slash.proofs.FormatLaws.{format_good}
 use Rattle.slash.proofs.ReadingLaws.{checked_known, checked_number}
 use Rattle.slash.proofs.WritingLaws.{write_done, word_best}
 use Rattle.slash.specs.Canonical.{CanonicalWord}
 use Rattle.slash.proofs.CanonicalLaws.{written_canonical}
 use Rattle.slash.proofs.WordLaws.{written_value, RoundedTo, changed, word_value, word_rounded, word_mark, word_sign}
+use Rattle.slash.specs.declared.answer.Stop.{Stop}
 use Rattle.slash.specs.declared.format.Format.{Format}
 use Rattle.slash.specs.declared.number.Parts.{Parts}
 use Rattle.slash.specs.declared.number.Value.{Value}
@@ -262,10 +263,17 @@ exact_back : (code : ℕ) (v w : Value) → Small (operand_of v) → Small (oper
 unfolding exact_value
 exact_back code v w s t = rw ((same_operand v s).0, (same_operand v s).1, (same_operand w t).0, (same_operand w t).1) refl
 
-pub written_from : (f : Format) (code : ℕ) (s t m : Bool) (a b c d : ℕ) (v w e : Value) (o : Outcome ℕ) (r : ℕ) → v ≡ value_from s a b → w ≡ value_from t c d
-    → e ≡ exact_value code v w → o ≡ write_number f (record { value = e; approximate = m }) → r ≡ or_zero o
-    → r ≡ or_zero (write_number f (record { value = exact_value code (value_from s a b) (value_from t c d); approximate = m }))
-written_from f code s t m a b c d v w e o r ve we ee oe re = re ∙ rw (oe, ee, ve, we) refl
+-- the exact result e of the values v and w of those parts, written as o: it is always done
+module _ (f : Format) (code : ℕ) (s t m : Bool) (a b c d : ℕ) {v w e : Value} {o : Outcome ℕ} (ve : v ≡ value_from s a b) (we : w ≡ value_from t c d)
+    (ee : e ≡ exact_value code v w) (oe : o ≡ write_number f (record { value = e; approximate = m })) where
+  abbrev Exact_number : Number
+  Exact_number = record { value = exact_value code (value_from s a b) (value_from t c d); approximate = m }
+
+  pub written_from : o ≡ write_number f Exact_number
+  written_from = oe ∙ rw (ee, ve, we) refl
+
+  pub written_good : known f ≡ true → Small (operand_of (value_from s a b)) → Small (operand_of (value_from t c d)) → IsOk o
+  written_good h x y = subst⁻¹ IsOk (written_from ∙ sym (write_done f Exact_number h (over_exact code _ _ x y))) refl
 
 -- ---- two words combined
 
@@ -310,7 +318,7 @@ module _ (f : Format) (code left right : ℕ) where
 
   -- ---- the stops of `binary`
 
-  pub stop_format : {n p : ℕ} → stop n p ≡ check_format f → stop n p ≡ binary_word f code left right
+  pub stop_format : {s : Stop} → Err s ≡ check_format f → Err s ≡ binary_word f code left right
   unfolding check_binary
   stop_format e = checked_stop _ _ binary_checked (then_stop _ e)
 
@@ -322,10 +330,10 @@ module _ (f : Format) (code left right : ℕ) where
         checked_stop _ _ binary_checked e
 
     module _ (i : is_binary code ≡ true) where
-      pub stop_left : {n p : ℕ} → stop n p ≡ check_word f left → stop n p ≡ binary_word f code left right
+      pub stop_left : {s : Stop} → Err s ≡ check_word f left → Err s ≡ binary_word f code left right
       stop_left e = checked_stop _ _ binary_checked (then_stop (λ _. check_word f right) e ∙ check_words h i)
 
-      pub stop_right : {n p : ℕ} → check_word f left ≡ done tt → stop n p ≡ check_word f right → stop n p ≡ binary_word f code left right
+      pub stop_right : {s : Stop} → check_word f left ≡ done tt → Err s ≡ check_word f right → Err s ≡ binary_word f code left right
       stop_right g e = checked_stop _ _ binary_checked (then_done (λ _. check_word f right) (sym g) e ∙ check_words h i)
 
       -- a vector form stops as the check of its words does
@@ -340,10 +348,10 @@ module _ (f : Format) (code left right : ℕ) where
     where
       go : (k : Outcome (Unit {0})) (b : Bool) (o : Outcome (Unit {0})) → is_binary code ≡ b → check_word f left ≡ o
           → done tt ≡ (k then λ _. if not b then stop 2 0 else (o then λ _. check_word f right)) → Good
-      go (stop n p) b o i j h = absurd (no_stop (sym h))
-      go (done u) false o i j h = absurd (no_stop (sym h))
-      go (done u) true (stop n p) i j h = absurd (no_stop (sym h))
-      go (done u) true (done v) i j h = record { binary = i; left_good = j; right_good = sym h }
+      go (Err s) b o i j h = absurd (no_stop (sym h))
+      go (Ok u) false o i j h = absurd (no_stop (sym h))
+      go (Ok u) true (Err s) i j h = absurd (no_stop (sym h))
+      go (Ok u) true (Ok v) i j h = record { binary = i; left_good = j; right_good = sym h }
 
   abbrev pub BestHere : ℕ → Type 0
   BestHere w = BestForSize f (binary_size code X.value Y.value) w
@@ -357,20 +365,20 @@ module _ (f : Format) (code left right : ℕ) where
   module _ (good : Good) where
     written_combined : (x y v : Value) (a b : Bool) (r : ℕ) → x ≡ (number_in f left).value → y ≡ (number_in f right).value → v ≡ exact_value code x y
         → a ≡ (number_in f left).approximate → b ≡ (number_in f right).approximate
-        → r ≡ or_zero (write_number f (record { value = v; approximate = a || b })) → r ≡ combined f code X Y
-    unfolding combined or_zero
+        → done r ≡ write_number f (record { value = v; approximate = a || b }) → r ≡ combined f code X Y
+    unfolding combined
     written_combined x y v a b r xe ye ve ae be re =
         let i : number_in f left ≡ X = checked_number f left good.left_good in
         let j : number_in f right ≡ Y = checked_number f right good.right_good in
         let e : v ≡ exact_value code X.value Y.value = rw (ve, xe, ye, i, j) refl in
         let m : (a || b) ≡ (X.approximate || Y.approximate) = rw (ae, be, i, j) refl in
         let z : is_over_zero v ≡ false = ap is_over_zero e ∙ over_exact code X.value Y.value (checked_small f left good.left_good) (checked_small f right good.right_good) in
-        re ∙ ap or_zero (sym (write_done f (record { value = v; approximate = a || b }) (checked_known f left good.left_good) z)) ∙ rw (e, m) refl
+        done_inj (re ∙ sym (write_done f (record { value = v; approximate = a || b }) (checked_known f left good.left_good) z)) ∙ rw (e, m) refl
 
     -- the same by the parts p and q of the two values: what `combined_word` gives is what `binary` makes, demand 3 with it
     pub binary_made : (x y : Value) (p q : Parts) (a b : Bool) (r : ℕ) → x ≡ (number_in f left).value → y ≡ (number_in f right).value
         → p ≡ parts_of x → q ≡ parts_of y → a ≡ (number_in f left).approximate → b ≡ (number_in f right).approximate
-        → r ≡ or_zero (write_number f (record { value = exact_value code (back p) (back q); approximate = a || b }))
+        → done r ≡ write_number f (record { value = exact_value code (back p) (back q); approximate = a || b })
         → (done r ≡ binary_word f code left right) × BestHere r
     binary_made x y p q a b r xe ye pe qe ae be re =
         let e : exact_value code (back p) (back q) ≡ exact_value code x y =

@@ -1,13 +1,12 @@
 -- Comparison: below, equal, above, or unordered with not-a-number.
 use Rattle.std.specs.Prelude.{ℕ, ◌*◌, Bool, not, ◌&&◌, ◌||◌, ltb, eqb}
 use Rattle.std.specs.Prelude.{if◌then◌else◌}
-use Rattle.slash.specs.Answers.{Outcome, stop, done, ◌then◌}
+use Rattle.slash.specs.Answers.{Outcome, done, ◌then◌}
 use Rattle.slash.specs.Reading.{read_word}
 use Rattle.slash.specs.Numbers.{is_nan}
 use Rattle.slash.specs.declared.format.Format.{Format}
 use Rattle.slash.specs.declared.number.Value.{Value}
 use Rattle.arithmetic.specs.Operands.{operand_of, differ}
-use Rattle.arithmetic.specs.declared.comparison.Comparison.{Comparison}
 use Rattle.arithmetic.specs.declared.comparison.Order.{Order}
 use Rattle.arithmetic.specs.declared.comparison.Order.TheVariants.{Below, Equal, Above, Unordered}
 use Rattle.arithmetic.specs.declared.operand.Operand.{Operand}
@@ -21,9 +20,8 @@ order_number Above = 2
 order_number Unordered = 3
 
 -- The outcome that an answer stands for: a stop, or the order's number.
-abbrev pub comparison_outcome : Comparison → Outcome ℕ
-comparison_outcome (Comparison.Done o) = done (order_number o)
-comparison_outcome (Comparison.Stopped s) = stop s.number s.place
+abbrev pub comparison_outcome : Outcome Order → Outcome ℕ
+comparison_outcome r = r then λ o. done (order_number o)
 
 -- How two whole numbers stand.
 unfoldable pub order_of : ℕ → ℕ → Order

@@ -1,8 +1,8 @@
 -- The paper's cases with a ●, as rows of one table.
-use Rattle.std.specs.Prelude.{ℕ, ◌*◌, Bool, true, false, not, ◌&&◌, List, [], ◌∷◌, eqb, ltb}
+use Rattle.std.specs.Prelude.{ℕ, ◌*◌, Bool, true, false, not, ◌&&◌, List, [], ◌∷◌, Ok, Err, eqb, ltb}
 use Rattle.std.specs.Bool.{beq}
 use Rattle.convergents.specs.Pairs.{pair, miss}
-use Rattle.slash.specs.Answers.{Outcome, stop, done}
+use Rattle.slash.specs.Answers.{Outcome}
 use Rattle.slash.specs.Formats.{holds}
 use Rattle.slash.specs.Reading.{read_word}
 use Rattle.slash.specs.Rounding.{round_ratio}
@@ -68,8 +68,8 @@ edges =
 
 -- Whether an outcome is what a row says.
 unfoldable pub is_rounded : ℕ → ℕ → Bool → Outcome Rounded → Bool
-is_rounded r s a (stop number place) = false
-is_rounded r s a (done x) = eqb x.numerator r && eqb x.denominator s && beq x.approximate a
+is_rounded r s a (Err e) = false
+is_rounded r s a (Ok x) = eqb x.numerator r && eqb x.denominator s && beq x.approximate a
 
 -- n/d as a value, and whether a value is that.
 abbrev positive : (n d : ℕ) → Value
@@ -82,12 +82,12 @@ is_positive n d (Infinity s) = false
 is_positive n d NotANumber = false
 
 unfoldable pub is_read : (n d : ℕ) → Bool → Outcome Number → Bool
-is_read n d a (stop number place) = false
-is_read n d a (done x) = is_positive n d x.value && beq x.approximate a
+is_read n d a (Err e) = false
+is_read n d a (Ok x) = is_positive n d x.value && beq x.approximate a
 
 unfoldable pub is_word : ℕ → Outcome ℕ → Bool
-is_word w (stop number place) = false
-is_word w (done v) = eqb v w
+is_word w (Err e) = false
+is_word w (Ok v) = eqb v w
 
 -- Whether the definitions say what a row says.
 unfoldable pub agrees : Edge → Bool

@@ -5,21 +5,15 @@ ghost use Rattle.arithmetic.specs.Operands.{operand_of};
 ghost use Rattle.arithmetic.specs.Comparison.{comparison_outcome, order_of, signed_order, outside, compare_of, compare_values, compare_words};
 
 use crate::operand::{Operand, as_operand};
-use slash::{Checked, Format, Parts, Stop, Value};
+use slash::{Format, Parts, Stop, Value};
 
+// How the left word stands to the right one.
 #[derive(Clone, Copy)]
 pub enum Order {
     Below,
     Equal,
     Above,
     Unordered,
-}
-
-// What comparing answers: how the left word stands to the right one.
-#[derive(Clone, Copy)]
-pub enum Comparison {
-    Done(Order),
-    Stopped(Stop),
 }
 
 // 2^62, where 0 lies on a line of numbers below 2^62 with signs.
@@ -121,18 +115,12 @@ fn compare_values(v: Value, w: Value) -> Order
     compare_any(v, w)
 }
 
-pub fn compare(f: Format, left: u64, right: u64) -> Comparison
+pub fn compare(f: Format, left: u64, right: u64) -> Result<Order, Stop>
     ensures { comparison_outcome result ≡ compare_words f left right }
 {
-    match slash::check(f, left) {
-        Checked::Stopped(s) => Comparison::Stopped(s),
-        Checked::Good(x) => match slash::check(f, right) {
-            Checked::Stopped(s) => Comparison::Stopped(s),
-            Checked::Good(y) => {
-                let v = x.value();
-                let w = y.value();
-                Comparison::Done(compare_values(v, w))
-            }
-        },
-    }
+    let x = slash::check(f, left)?;
+    let y = slash::check(f, right)?;
+    let v = x.value();
+    let w = y.value();
+    Ok(compare_values(v, w))
 }

@@ -8,6 +8,6 @@ mod each;
 mod operand;
 mod operation;
 
-pub use comparison::{Comparison, Order, compare};
+pub use comparison::{Order, compare};
 pub use each::binary_each;
 pub use operation::{binary, is_binary};

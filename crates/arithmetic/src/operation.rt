@@ -1,8 +1,7 @@
 // The four binary operations.
-ghost use Rattle.std.specs.Prelude.{◌≡◌, ◌<◌, ◌^◌};
-ghost use Rattle.slash.specs.Answers.{written_outcome, WhenDone};
-ghost use Rattle.slash.specs.Steps.{or_zero};
-ghost use Rattle.slash.specs.Formats.{format_of};
+ghost use Rattle.std.specs.Prelude.{◌≡◌, ◌<◌, ◌^◌, true, Ok};
+ghost use Rattle.slash.specs.Answers.{WhenDone};
+ghost use Rattle.slash.specs.Formats.{known, format_of};
 ghost use Rattle.slash.specs.Best.{BestForSize};
 ghost use Rattle.slash.specs.Reading.{number_of};
 ghost use Rattle.slash.specs.Writing.{write_number};
@@ -12,7 +11,7 @@ ghost use Rattle.arithmetic.specs.Sizes.{binary_size};
 ghost use Rattle.arithmetic.specs.Operations.{sum_size, sum_sign, sum_parts, sum_of, times_infinity, product_parts, product_of, divided_by, quotient_of, exact_of, exact_value, is_binary, binary_word};
 
 use crate::operand::{Operand, as_operand, sign};
-use slash::{Checked, Completion, Format, Number, Parts, Stop, Value, Written};
+use slash::{Format, Number, Parts, Stop, Value};
 
 // The codes of the operations.
 const ADD: u64 = 1;
@@ -223,7 +222,7 @@ fn value_from(s: bool, n: u64, d: u64) -> Value
 
 // What a/b and c/d with the signs s and t come to, written: in plain numbers, of which the first
 // six stay in registers.
-pub(crate) fn combined_word(
+fn combined_word(
     code: u64,
     a: u64,
     b: u64,
@@ -235,10 +234,10 @@ pub(crate) fn combined_word(
     t: bool,
     marked: bool,
 ) -> u64
-    requires { Small (operand_of (value_from s a b)) × Small (operand_of (value_from t c d)) }
-    ensures { result ≡ or_zero (write_number (format_of kind k) (record { value = exact_value code (value_from s a b) (value_from t c d); approximate = marked })) }
+    requires { (known (format_of kind k) ≡ true) × Small (operand_of (value_from s a b)) × Small (operand_of (value_from t c d)) }
+    ensures { Ok result ≡ write_number (format_of kind k) (record { value = exact_value code (value_from s a b) (value_from t c d); approximate = marked }) }
 {
-    let f = Format { kind: kind, k: k };
+    let f = Format { kind, k };
     let v = value_from(s, a, b);
     let w = value_from(t, c, d);
     let exact = exact_value(code, v, w);
@@ -246,44 +245,43 @@ pub(crate) fn combined_word(
         value: exact,
         approximate: marked,
     };
-    let Written::Done(word) = slash::write(f, number) else {
-        return 0;
-    };
-    word
+    slash::write(f, number).unwrap()
+}
+
+// The word of two words combined, of a known format and code. The left word is checked first.
+#[inline(always)]
+pub(crate) fn combined(f: Format, code: u64, left: u64, right: u64) -> Result<u64, Stop>
+    requires { (known f ≡ true) × (is_binary code ≡ true) }
+    ensures written { result ≡ binary_word f code left right }
+    ensures best { WhenDone result (λ w. BestForSize f (binary_size code (number_of f left).value (number_of f right).value) w) }
+{
+    let x = slash::check(f, left)?;
+    let y = slash::check(f, right)?;
+    let p = slash::parts_of(x.value());
+    let q = slash::parts_of(y.value());
+    let marked = x.is_approximate() | y.is_approximate();
+    Ok(combined_word(
+        code,
+        p.numerator,
+        p.denominator,
+        q.numerator,
+        q.denominator,
+        f.kind,
+        f.k,
+        p.negative,
+        q.negative,
+        marked,
+    ))
 }
 
 // left and right combined: code 1 adds, 2 subtracts, 3 multiplies, 4 divides.
-pub fn binary(f: Format, code: u64, left: u64, right: u64) -> Written
-    ensures written { written_outcome result ≡ binary_word f code left right }
-    ensures best { WhenDone (written_outcome result) (λ w. BestForSize f (binary_size code (number_of f left).value (number_of f right).value) w) }
+pub fn binary(f: Format, code: u64, left: u64, right: u64) -> Result<u64, Stop>
+    ensures written { result ≡ binary_word f code left right }
+    ensures best { WhenDone result (λ w. BestForSize f (binary_size code (number_of f left).value (number_of f right).value) w) }
 {
-    if let Completion::Stopped(s) = f.check() {
-        return Written::Stopped(s);
-    }
+    f.check()?;
     if !is_binary(code) {
-        return Written::Stopped(Stop::plain(Stop::CODE));
+        return Err(Stop::plain(Stop::CODE));
     }
-    match slash::check(f, left) {
-        Checked::Stopped(s) => Written::Stopped(s),
-        Checked::Good(x) => match slash::check(f, right) {
-            Checked::Stopped(s) => Written::Stopped(s),
-            Checked::Good(y) => {
-                let p = slash::parts_of(x.value());
-                let q = slash::parts_of(y.value());
-                let marked = x.is_approximate() | y.is_approximate();
-                Written::Done(combined_word(
-                    code,
-                    p.numerator,
-                    p.denominator,
-                    q.numerator,
-                    q.denominator,
-                    f.kind,
-                    f.k,
-                    p.negative,
-                    q.negative,
-                    marked,
-                ))
-            }
-        },
-    }
+    combined(f, code, left, right)
 }
