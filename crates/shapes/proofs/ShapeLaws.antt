@@ -10,7 +10,7 @@ use lib.Dec.{leb}
 use lib.ListN.{length, take, length-append}
 use lib.Seq.{length-take-le}
 use borrow.Author.Tests.{not-true, not-false}
-use Rattle.std.specs.Prelude.{if◌then◌else◌}
+use Rattle.std.specs.Prelude.{if◌then◌else◌, Option, Some, None}
 use Rattle.convergents.specs.Pairs.{Pair}
 use Rattle.breaths.specs.Ratios.{word_of, fraction_of}
 use Rattle.breaths.specs.declared.ratio.Ratio.{Ratio}
@@ -28,8 +28,6 @@ use Rattle.shapes.specs.Fields.{every, is_whole, in_two, is_fraction, is_decimal
 use Rattle.shapes.specs.Words.{is_word, word_in, word_read}
 use Rattle.shapes.specs.Shapes.{is_named, are_columns, shape_of_fields, shape_of}
 use Rattle.shapes.specs.declared.shape.Said.{Said}
-use Rattle.shapes.specs.declared.shape.Shape.TheVariants.{Line, Other}
-use Rattle.shapes.specs.declared.word.Digits.{Digits}
 use Rattle.shapes.proofs.FieldLaws.{every_append, every_one, free_above, decimal_above, whole_decimal, fraction_shape, decimal_shape, fraction_none}
 use Rattle.shapes.proofs.WordLaws.{hexadecimal_above, word_shape, word_back}
 
@@ -119,7 +117,7 @@ module _ (name : Name) (r : Ratio) where
   free_of : (b : ℕ) → b < 45 → Free b a × Free b hex
   free_of b h = (free_above 45 b a h (name_named name).above, free_above 45 b hex h (hexadecimal_above 45 8 (word_of r) (omega arith)))
 
-  pub line_shaped : word_of r < 2 ^ 31 → shape_of (body_of name r) ≡ Line (record { name = length (name_text name); word = word_of r })
+  pub line_shaped : word_of r < 2 ^ 31 → shape_of (body_of name r) ≡ Some (record { name = length (name_text name); word = word_of r })
   unfolding shape_of shape_of_fields in_two
   line_shaped l =
       let s = printed_columns r in
@@ -137,7 +135,7 @@ module _ (name : Name) (r : Ratio) where
       in
       ap shape_of_fields parts
       ∙ rw ((name_named name).shape, word_shape (word_of r), s.shape)
-      (ap (λ (w : ℕ). Line (record { name = length (name_text name); word = w })) (word_back (word_of r) l))
+      (ap (λ (w : ℕ). Some (record { name = length (name_text name); word = w })) (word_back (word_of r) l))
 
   -- and it has no line feed
   pub line_free : Free 10 (body_of name r)
@@ -183,12 +181,12 @@ module _ (x y : List ℕ) (t : Bool) (te : t ≡ same x hyphen) where
 -- ---- a line
 
 module _ (line : List ℕ) (i : ℕ) (ie : i ≡ length_before 9 line) where
-  pub shape_one : i ≡ length line → Other ≡ shape_of line
+  pub shape_one : i ≡ length line → None ≡ shape_of line
   unfolding shape_of shape_of_fields
   shape_one e = sym (ap shape_of_fields (parted_none 9 line (sym ie ∙ e)))
 
   module _ (n : i ≡ length line → ⊥) (j : ℕ) (je : j ≡ length_before 9 (behind i line)) where
-    pub shape_two : j ≡ length (behind i line) → Other ≡ shape_of line
+    pub shape_two : j ≡ length (behind i line) → None ≡ shape_of line
     unfolding shape_of shape_of_fields in_two
     shape_two e =
         sym (ap shape_of_fields (parted_at 9 line i ie n ∙ ap (λ (l : List (List ℕ)). take i line ∷ l) (parted_none 9 (behind i line) (sym je ∙ e)))
@@ -197,48 +195,48 @@ module _ (line : List ℕ) (i : ℕ) (ie : i ≡ length_before 9 line) where
     module _ (m : j ≡ length (behind i line) → ⊥) where
       parts : shape_of line
           ≡ (if is_named (take i line) && (is_word (take j (behind i line)) && in_two are_columns (parted 9 (behind j (behind i line))))
-          then Line (record { name = length (take i line); word = word_in (take j (behind i line)) }) else Other)
+          then Some (record { name = length (take i line); word = word_in (take j (behind i line)) }) else None)
       unfolding shape_of shape_of_fields
       parts = ap shape_of_fields (parted_at 9 line i ie n ∙ ap (λ (l : List (List ℕ)). take i line ∷ l) (parted_at 9 (behind i line) j je m))
 
       module _ (t : Bool) (te : t ≡ is_named (take i line)) where
-        pub shape_name : not t ≡ true → Other ≡ shape_of line
+        pub shape_name : not t ≡ true → None ≡ shape_of line
         shape_name f = sym (parts ∙ rw (← te, not-true t f) refl)
 
-        module _ (g : not t ≡ false) (h : Digits) (he : h ≡ word_read (take j (behind i line))) where
-          word_case : (b : Bool) → is_word (take j (behind i line)) ≡ b → h ≡ (if b then Digits.Word (word_in (take j (behind i line))) else Digits.Other)
+        module _ (g : not t ≡ false) (h : Option ℕ) (he : h ≡ word_read (take j (behind i line))) where
+          word_case : (b : Bool) → is_word (take j (behind i line)) ≡ b → h ≡ (if b then Some (word_in (take j (behind i line))) else None)
           unfolding word_read
           word_case b e = he ∙ rw e refl
 
-          pub shape_word : h ≡ Digits.Other → Other ≡ shape_of line
+          pub shape_word : h ≡ None → None ≡ shape_of line
           shape_word o = sym (go (is_word (take j (behind i line))) refl)
             where
-              go : (b : Bool) → is_word (take j (behind i line)) ≡ b → shape_of line ≡ Other
+              go : (b : Bool) → is_word (take j (behind i line)) ≡ b → shape_of line ≡ None
               go false e = parts ∙ rw (e, and-false (is_named (take i line))) refl
               go true e = absurd (other_word (sym o ∙ word_case true e))
                 where
-                  other_word : {w : ℕ} → Digits.Other ≡ Digits.Word w → ⊥
+                  other_word : {w : ℕ} → None ≡ Some w → ⊥
                   other_word q = let z : ◌≡◌ {A = ℕ} 0 1 = cc in omega arith
 
-          module _ (w : ℕ) (we : h ≡ Digits.Word w) (u : Bool) (ue : u ≡ in_two are_columns (parted 9 (behind j (behind i line)))) where
+          module _ (w : ℕ) (we : h ≡ Some w) (u : Bool) (ue : u ≡ in_two are_columns (parted 9 (behind j (behind i line)))) where
             word_is : (is_word (take j (behind i line)) ≡ true) × (word_in (take j (behind i line)) ≡ w)
             word_is = go (is_word (take j (behind i line))) refl
               where
                 go : (b : Bool) → is_word (take j (behind i line)) ≡ b → (is_word (take j (behind i line)) ≡ true) × (word_in (take j (behind i line)) ≡ w)
                 go true e = (e, word_inj (sym (word_case true e) ∙ we))
                   where
-                    word_inj : {a b : ℕ} → Digits.Word a ≡ Digits.Word b → a ≡ b
+                    word_inj : {a b : ℕ} → Some a ≡ Some b → a ≡ b
                     word_inj q = cc
                 go false e = absurd (word_other (sym we ∙ word_case false e))
                   where
-                    word_other : {a : ℕ} → Digits.Word a ≡ Digits.Other → ⊥
+                    word_other : {a : ℕ} → Some a ≡ None → ⊥
                     word_other q = let z : ◌≡◌ {A = ℕ} 0 1 = cc in omega arith
 
-            pub shape_last : not u ≡ true → Other ≡ shape_of line
+            pub shape_last : not u ≡ true → None ≡ shape_of line
             shape_last f =
                 sym (parts ∙ rw (← ue, not-true u f, and-false (is_word (take j (behind i line))), and-false (is_named (take i line))) refl)
 
-            pub shape_line : not u ≡ false → Line (record { name = i; word = w }) ≡ shape_of line
+            pub shape_line : not u ≡ false → Some (record { name = i; word = w }) ≡ shape_of line
             shape_line f =
                 let l : length (take i line) ≡ i = length-take-le i line (omega (arith, before_le 9 line)) in
                 sym (parts ∙ rw (← te, not-false t g, word_is.0, ← ue, not-false u f, l, word_is.1) refl)
@@ -246,22 +244,22 @@ module _ (line : List ℕ) (i : ℕ) (ie : i ≡ length_before 9 line) where
 -- ---- what a line that has the shape says
 
 -- its name is some of its bytes
-pub name_within : (line : List ℕ) (x : Said) → shape_of line ≡ Line x → x.name ≤ length line
+pub name_within : (line : List ℕ) (x : Said) → shape_of line ≡ Some x → x.name ≤ length line
 unfolding shape_of shape_of_fields
 name_within line x e = go (parted 9 line) (joined_parted 9 line) e
   where
-    other_line : Other ≡ Line x → ⊥
+    other_line : None ≡ Some x → ⊥
     other_line q = let z : ◌≡◌ {A = ℕ} 0 1 = cc in omega arith
 
-    line_inj : {y : Said} → Line y ≡ Line x → y ≡ x
+    line_inj : {y : Said} → Some y ≡ Some x → y ≡ x
     line_inj q = cc
 
     fields : (a b : List ℕ) (rest : List (List ℕ)) (t : Bool)
-        → (if t then Line (record { name = length a; word = word_in b }) else Other) ≡ Line x → x.name ≡ length a
+        → (if t then Some (record { name = length a; word = word_in b }) else None) ≡ Some x → x.name ≡ length a
     fields a b rest true q = sym (ap (λ (y : Said). y.name) (line_inj q))
     fields a b rest false q = absurd (other_line q)
 
-    go : (ps : List (List ℕ)) → joined 9 ps ≡ line → shape_of_fields ps ≡ Line x → x.name ≤ length line
+    go : (ps : List (List ℕ)) → joined 9 ps ≡ line → shape_of_fields ps ≡ Some x → x.name ≤ length line
     go [] j q = absurd (other_line q)
     go (a ∷ []) j q = absurd (other_line q)
     go (a ∷ b ∷ rest) j q =

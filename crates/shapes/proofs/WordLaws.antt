@@ -12,7 +12,7 @@ use native.Mathlib.Decide.{dec_lt}
 use lib.Dec.{eqb, leb}
 use lib.ListN.{length, get_or, drop}
 use borrow.Author.Tests.{eq-eqb, ne_eqb, le-leb, lt-leb, leb-true, lt-ltb, le-ltb, not-false}
-use Rattle.std.specs.Prelude.{if◌then◌else◌}
+use Rattle.std.specs.Prelude.{if◌then◌else◌, Some, None}
 use Rattle.slash.proofs.AnswerLaws.{and_parts}
 use Rattle.text.specs.Numbers.{hex_digit, hexadecimal}
 use Rattle.text.specs.Scan.{is_digit}
@@ -21,7 +21,6 @@ use Rattle.text.proofs.ScanLaws.{drop_past}
 use Rattle.text.proofs.PartLaws.{drop_here}
 use Rattle.shapes.specs.Fields.{every}
 use Rattle.shapes.specs.Words.{is_hex_digit, is_word, hex_value, hex_from, word_in, word_read}
-use Rattle.shapes.specs.declared.word.Digits.{Digits}
 use Rattle.shapes.proofs.FieldLaws.{digit_is, digit_range, every_append, every_one, Passing, passing_start, passing_not, passing_next, passing_end}
 
 -- ---- what is printed of a word
@@ -148,12 +147,12 @@ pub record Hexing (xs : List ℕ) (v i : ℕ) : Type 0 where
 pub hexing_start : (xs : List ℕ) → Hexing xs 0 0
 hexing_start xs = record { passing = passing_start is_hex_digit xs; value = refl; few = omega arith }
 
-pub word_none : (xs : List ℕ) → (length xs ≡ 8 → ⊥) → Digits.Other ≡ word_read xs
+pub word_none : (xs : List ℕ) → (length xs ≡ 8 → ⊥) → None ≡ word_read xs
 unfolding word_read is_word
 word_none xs h = rw (ne_eqb _ _ h) refl
 
 module _ {xs : List ℕ} {v i : ℕ} (h : Hexing xs v i) (eight : length xs ≡ 8) where
-  pub hexing_not : i < length xs → (t : Bool) → t ≡ is_hex_digit (get_or xs i 0) → not t ≡ true → Digits.Other ≡ word_read xs
+  pub hexing_not : i < length xs → (t : Bool) → t ≡ is_hex_digit (get_or xs i 0) → not t ≡ true → None ≡ word_read xs
   unfolding word_read is_word
   hexing_not l t e n = rw (← passing_not h.passing l t e n, and-false (eqb (length xs) 8)) refl
 
@@ -175,8 +174,8 @@ module _ {xs : List ℕ} {v i : ℕ} (h : Hexing xs v i) (eight : length xs ≡ 
           few = omega (arith, h.few, value_small (get_or xs i 0) hexing_digit, pow-suc 16 i, ap (λ (j : ℕ). 16 ^ j) (add-one i));
         }
 
-  pub hexing_end : length xs ≤ i → Digits.Word v ≡ word_read xs
+  pub hexing_end : length xs ≤ i → Some v ≡ word_read xs
   unfolding word_read is_word word_in
   hexing_end l =
       let e : hex_from 0 xs ≡ v = h.value ∙ ap (hex_from v) (drop_past xs i (omega (arith, h.passing.within))) ∙ hex_nil v in
-      rw (eq-eqb _ _ eight, ← passing_end h.passing l) (ap Digits.Word (sym e))
+      rw (eq-eqb _ _ eight, ← passing_end h.passing l) (ap Some (sym e))

@@ -1,9 +1,8 @@
 -- A word as eight lowercase hexadecimal digits.
-use Rattle.std.specs.Prelude.{ℕ, ◌+◌, ◌-◌, ◌*◌, Bool, ◌&&◌, ◌||◌, List, [], ◌∷◌, eqb, leb, length}
+use Rattle.std.specs.Prelude.{ℕ, ◌+◌, ◌-◌, ◌*◌, Bool, ◌&&◌, ◌||◌, List, [], ◌∷◌, eqb, leb, length, Option, Some, None}
 use Rattle.std.specs.Prelude.{if◌then◌else◌}
 use Rattle.text.specs.Scan.{is_digit}
 use Rattle.shapes.specs.Fields.{every}
-use Rattle.shapes.specs.declared.word.Digits.{Digits}
 
 -- A digit from 0 to f: bytes 48 to 57, and 97 to 102.
 unfoldable pub is_hex_digit : ℕ → Bool
@@ -23,6 +22,6 @@ hex_from value (x ∷ xs) = hex_from (value * 16 + hex_value x) xs
 unfoldable pub word_in : List ℕ → ℕ
 word_in xs = hex_from 0 xs
 
--- What a field says: the word, where it is eight such digits.
-unfoldable pub word_read : List ℕ → Digits
-word_read xs = if is_word xs then Digits.Word (word_in xs) else Digits.Other
+-- What a field says: the word, where it is eight such digits; else nothing.
+unfoldable pub word_read : List ℕ → Option ℕ
+word_read xs = if is_word xs then Some (word_in xs) else None

@@ -6,5 +6,5 @@ mod field;
 mod shape;
 mod word;
 
-pub use shape::{Said, Shape, shape_of};
-pub use word::{Digits, read_word};
+pub use shape::{Said, shape_of};
+pub use word::read_word;

@@ -5,7 +5,7 @@ ghost use Rattle.shapes.specs.Fields.{in_two};
 ghost use Rattle.shapes.specs.Shapes.{is_named, are_columns, shape_of};
 
 use crate::field::{is_decimal, is_fraction, is_whole};
-use crate::word::{Digits, read_word};
+use crate::word::read_word;
 use text::{is_same, length_before};
 
 // How many bytes a line's name has, and its word.
@@ -13,13 +13,6 @@ use text::{is_same, length_before};
 pub struct Said {
     pub name: usize,
     pub word: u64,
-}
-
-// What a line says by its shape: that, or nothing where it isn't so shaped.
-#[derive(Clone, Copy)]
-pub enum Shape {
-    Line(Said),
-    Other,
 }
 
 fn is_named(field: &[u8]) -> bool
@@ -58,28 +51,26 @@ fn are_last(bytes: &[u8]) -> bool
     are_columns(&bytes[..i], last)
 }
 
-// The shape of a line, its line feed not counted. Each byte is looked at a few times, however long
-// the fields are.
-pub fn shape_of(line: &[u8]) -> Shape
+// What a line says by its shape, its line feed not counted; none where it isn't so shaped. Each byte is
+// looked at a few times, however long the fields are.
+pub fn shape_of(line: &[u8]) -> Option<Said>
     ensures { result ≡ shape_of line.now }
 {
     let i = length_before(line, b'\t');
     if i == line.len() {
-        return Shape::Other;
+        return None;
     }
     let rest = &line[i + 1..];
     let j = length_before(rest, b'\t');
     if j == rest.len() {
-        return Shape::Other;
+        return None;
     }
     if !is_named(&line[..i]) {
-        return Shape::Other;
+        return None;
     }
-    let Digits::Word(w) = read_word(&rest[..j]) else {
-        return Shape::Other;
-    };
+    let w = read_word(&rest[..j])?;
     if !are_last(&rest[j + 1..]) {
-        return Shape::Other;
+        return None;
     }
-    Shape::Line(Said { name: i, word: w })
+    Some(Said { name: i, word: w })
 }

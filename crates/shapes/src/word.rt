@@ -4,13 +4,6 @@ ghost use Rattle.shapes.specs.Words.{is_hex_digit, hex_value, word_read};
 
 use crate::field::is_digit;
 
-// What a field says: a word, or anything else.
-#[derive(Clone, Copy)]
-pub enum Digits {
-    Word(u64),
-    Other,
-}
-
 fn is_hex_digit(b: u8) -> bool
     ensures { result ≡ is_hex_digit b }
 {
@@ -28,22 +21,22 @@ fn hex_value(b: u8) -> u64
     }
 }
 
-// The word of a field of eight lowercase hexadecimal digits.
-pub fn read_word(field: &[u8]) -> Digits
+// The word of a field of eight lowercase hexadecimal digits; of any other field none.
+pub fn read_word(field: &[u8]) -> Option<u64>
     ensures { result ≡ word_read field.now }
 {
     if field.len() != 8 {
-        return Digits::Other;
+        return None;
     }
     let mut value: u64 = 0;
     let mut i = 0;
     while i < field.len() {
         let b = field[i];
         if !is_hex_digit(b) {
-            return Digits::Other;
+            return None;
         }
         value = value * 16 + hex_value(b);
         i += 1;
     }
-    Digits::Word(value)
+    Some(value)
 }

@@ -1,6 +1,6 @@
 use Rattle.shapes.proofs.ShapeLaws.{shape_one, shape_two, shape_name, shape_word, shape_last, shape_line}
 use lib.Seq.{length-take-le}
-use mathlib.Core.Path.{sym}
+use mathlib.Core.Path.{sym, ◌∙◌}
 use Rattle.shapes.proofs.shape.shape_of.Goals as goal
 
 pub returns-then-i-line : goal.returns-then-i-line
@@ -18,11 +18,11 @@ returns-then-not-is_named c = shape_name _ _ c.length_before-i.ensures.defined c
 pub slice_bounds-read_word-end : goal.slice_bounds-read_word-end
 slice_bounds-read_word-end c = sym (length-take-le _ _ c.length_before-j.ensures.within)
 
-pub returns-in_default : goal.returns-in_default
-returns-in_default c = shape_word _ _ c.length_before-i.ensures.defined c.if-i-line.false _ c.length_before-j.ensures.defined c.if-j-rest.false _ c.is_named.ensures c.if-not-is_named.false-raw _ c.read_word.ensures c.in_default.is
+pub returns-in_err-w : goal.returns-in_err-w
+returns-in_err-w c = c.from_residual.ensures ∙ shape_word _ _ c.length_before-i.ensures.defined c.if-i-line.false _ c.length_before-j.ensures.defined c.if-j-rest.false _ c.is_named.ensures c.if-not-is_named.false-raw _ c.read_word.ensures c.in_err-w.was
 
 pub returns-then-not-are_last : goal.returns-then-not-are_last
-returns-then-not-are_last c = shape_last _ _ c.length_before-i.ensures.defined c.if-i-line.false _ c.length_before-j.ensures.defined c.if-j-rest.false _ c.is_named.ensures c.if-not-is_named.false-raw _ c.read_word.ensures _ c.in-Word.is _ c.are_last.ensures c.if-not-are_last.true-raw
+returns-then-not-are_last c = shape_last _ _ c.length_before-i.ensures.defined c.if-i-line.false _ c.length_before-j.ensures.defined c.if-j-rest.false _ c.is_named.ensures c.if-not-is_named.false-raw _ c.read_word.ensures _ c.in_ok-w.was _ c.are_last.ensures c.if-not-are_last.true-raw
 
 pub returns : goal.returns
-returns c = shape_line _ _ c.length_before-i.ensures.defined c.if-i-line.false _ c.length_before-j.ensures.defined c.if-j-rest.false _ c.is_named.ensures c.if-not-is_named.false-raw _ c.read_word.ensures _ c.in-Word.is _ c.are_last.ensures c.if-not-are_last.false-raw
+returns c = shape_line _ _ c.length_before-i.ensures.defined c.if-i-line.false _ c.length_before-j.ensures.defined c.if-j-rest.false _ c.is_named.ensures c.if-not-is_named.false-raw _ c.read_word.ensures _ c.in_ok-w.was _ c.are_last.ensures c.if-not-are_last.false-raw
