@@ -18,11 +18,11 @@ use lib.IntN.{ℤ, pos, negsuc, nat_abs}
 use lib.Signed.{lt_z}
 use mir.Syntax.{w64}
 use mir.Val.{Fits, SFits}
-use borrow.Author.Tests.{eqb-true, eq-eqb, ne_eqb, lt-leb}
-use Rattle.std.specs.Prelude.{if◌then◌else◌}
+use borrow.Author.Tests.{eqb-true, lt-leb}
+use Rattle.std.specs.Prelude.{if◌then◌else◌, Ok, Err}
 use Rattle.convergents.specs.Rounding.{round}
-use Rattle.slash.specs.Answers.{Outcome, stop, done, ◌then◌, answer_outcome, WhenDone}
-use Rattle.slash.specs.Steps.{or_zero, SmallParts, HeldParts, HeldValue}
+use Rattle.slash.specs.Answers.{Outcome, stop, done, ◌then◌, WhenDone}
+use Rattle.slash.specs.Steps.{SmallParts, HeldParts, HeldValue}
 use Rattle.slash.specs.Bits.{bit, bit_of}
 use Rattle.slash.specs.Formats.{known, check_format, of_known, width_of, holds}
 use Rattle.slash.specs.Rounding.{rounded}
@@ -31,16 +31,15 @@ use Rattle.slash.specs.Writing.{nan_word, word_for, is_over_zero, write_number}
 use Rattle.slash.specs.Numbers.{is_nan, parts_of, pair_of, signed_of}
 use Rattle.slash.specs.Best.{ExactSize, ◌over◌, size_of, BestForValue}
 use Rattle.slash.specs.Canonical.{CanonicalWord}
-use Rattle.slash.proofs.AnswerLaws.{done_inj, no_stop, then_stop, checked_stop, checked_made, some_not, if_case, when_checked}
+use Rattle.slash.proofs.AnswerLaws.{done_inj, no_stop, then_stop, then_stopped, checked_stop, checked_made, some_not, if_case, when_checked}
 use Rattle.slash.proofs.BitLaws.{one_shl, pow_next}
-use Rattle.slash.proofs.FormatLaws.{format_good, of_known_lem, known_k, slash_bits_pos, width_fixed, width_floating, width_range, format_limit, fixed_holds, holds_both, floating_holds, holds_sum}
+use Rattle.slash.proofs.FormatLaws.{format_good, good_known, of_known_lem, known_k, slash_bits_pos, width_fixed, width_floating, width_range, format_limit, fixed_holds, holds_both, floating_holds, holds_sum}
 use Rattle.slash.proofs.RoundingLaws.{held_exact}
 use Rattle.slash.proofs.ReadingLaws.{checked_known, checked_number, checked_read, read_checked}
 use Rattle.slash.proofs.WritingLaws.{write_done, word_best}
 use Rattle.slash.proofs.CanonicalLaws.{held_small, read_known, read_held, written_canonical}
 use Rattle.slash.proofs.WordLaws.{written_value, RoundedTo, changed, marks, word_value, word_rounded, word_mark, word_exact, word_sign}
 use Rattle.slash.specs.declared.answer.Stop.{Stop}
-use Rattle.slash.specs.declared.answer.Answer.{Answer}
 use Rattle.slash.specs.declared.format.Format.{Format}
 use Rattle.slash.specs.declared.number.Parts.{Parts}
 use Rattle.slash.specs.declared.number.Value.{Value}
@@ -78,26 +77,38 @@ module _ (h w : ℕ) (l : h < 64) where
   unfolding with_highest bit_of
   not_set s e = rw e (omega (arith, rest_is))
 
--- the width that a known format tells
-module _ (f : Format) (known-it : known f ≡ true) {a : Answer} (width-it : answer_outcome a ≡ of_known f (width_of f)) where
-  pub width_no_stop : {s : Stop} → a ≡ Answer.Stopped s → ⊥
-  width_no_stop e = no_stop (sym (ap answer_outcome e) ∙ width-it ∙ sym (of_known_lem f (width_of f) known-it))
+-- the width that a known format tells: a word has from 4 to 64 bits
+module _ (f : Format) where
+  width_some : known f ≡ true → (4 ≤ width_of f) × (width_of f ≤ 64)
+  width_some h = go (ℕ_discrete f.kind 1)
+    where
+      go : Dec (f.kind ≡ 1) → (4 ≤ width_of f) × (width_of f ≤ 64)
+      go (yes k) = omega (arith, width_range f h, width_fixed f k, known_k f h)
+      go (no k) = omega (arith, width_range f h, width_floating f k _ refl, known_k f h, slash_bits_pos f.k (known_k f h).0)
 
-  module _ {n : ℕ} (e : a ≡ Answer.Done n) where
-    pub width_word : n ≡ width_of f
-    width_word = done_inj (sym (ap answer_outcome e) ∙ width-it ∙ sym (of_known_lem f (width_of f) known-it))
-
-    -- a word has from 4 to 64 bits
-    pub width_some : (4 ≤ n) × (n ≤ 64)
-    width_some = go (ℕ_discrete f.kind 1)
+  -- a format that tells anything is known; what it tells otherwise is its stop
+  module _ {A : Type 0} (x : A) where
+    told : {y : A} → done y ≡ of_known f x → (known f ≡ true) × (y ≡ x)
+    unfolding of_known
+    told {y} e = go (check_format f) refl
       where
-        go : Dec (f.kind ≡ 1) → (4 ≤ n) × (n ≤ 64)
-        go (yes k) = omega (arith, width_word, width_range f known-it, width_fixed f k, known_k f known-it)
-        go (no k) = omega (arith, width_word, width_range f known-it, width_floating f k _ refl, known_k f known-it, slash_bits_pos f.k (known_k f known-it).0)
+        go : (o : Outcome (Unit {0})) → check_format f ≡ o → (known f ≡ true) × (y ≡ x)
+        go (Err s) h = absurd (no_stop (sym (e ∙ ap (λ (p : Outcome (Unit {0})). p then λ _. done x) h)))
+        go (Ok u) h = (good_known f (sym h), done_inj (e ∙ ap (λ (p : Outcome (Unit {0})). p then λ _. done x) h))
 
-pub touch_done : (f : Format) (place code w r : ℕ) → r ≡ with_highest place (new_sign code (bit place w)) w → place ≡ sign_bit f → r ≡ sign_touched f code w
-unfolding sign_touched
-touch_done f place code w r g e = g ∙ ap (λ (m : ℕ). with_highest m (new_sign code (bit m w)) w) e
+    pub untold : {B : Type 0} (y : B) {s : Stop} → Err s ≡ of_known f x → Err s ≡ of_known f y
+    unfolding of_known
+    untold y e = then_stop (λ _. done y) (then_stopped x (check_format f) e)
+
+  pub width_told : {n : ℕ} → done n ≡ of_known f (width_of f) → (4 ≤ n) × (n ≤ 64)
+  width_told e = let t = told _ e in omega (arith, t.1, width_some t.0)
+
+  pub touch_done : (code w : ℕ) {n r : ℕ} → done n ≡ of_known f (width_of f) → r ≡ with_highest (n - 1) (new_sign code (bit (n - 1) w)) w
+      → done r ≡ of_known f (sign_touched f code w)
+  unfolding sign_touched sign_bit
+  touch_done code w e h =
+      let t = told _ e in
+      ap done (h ∙ ap (λ (m : ℕ). with_highest (m - 1) (new_sign code (bit (m - 1) w)) w) t.1) ∙ of_known_lem f (sign_touched f code w) t.0
 
 -- ---- whole numbers
 
@@ -136,81 +147,21 @@ module _ (p : Parts) (s : SmallParts p) (n : ℤ) (nf : SFits w64 n) (ne : n ≡
 -- ---- by code
 
 module _ (code : ℕ) (p : Parts) where
-  pub parts_reciprocal : code ≡ 3 → reciprocal_parts p ≡ exact_parts code p
-  unfolding exact_parts
-  parts_reciprocal e = rw (eq-eqb _ _ e) refl
-
-  module _ (n3 : code ≡ 3 → ⊥) where
-    pub parts_floor : code ≡ 4 → floor_parts p ≡ exact_parts code p
-    unfolding exact_parts
-    parts_floor e = rw (ne_eqb _ _ n3, eq-eqb _ _ e) refl
-
-    module _ (n4 : code ≡ 4 → ⊥) where
-      pub parts_ceiling : code ≡ 5 → ceiling_parts p ≡ exact_parts code p
-      unfolding exact_parts
-      parts_ceiling e = rw (ne_eqb _ _ n3, ne_eqb _ _ n4, eq-eqb _ _ e) refl
-
-      module _ (n5 : code ≡ 5 → ⊥) where
-        pub parts_mod : code ≡ 6 → mod_parts p ≡ exact_parts code p
-        unfolding exact_parts
-        parts_mod e = rw (ne_eqb _ _ n3, ne_eqb _ _ n4, ne_eqb _ _ n5, eq-eqb _ _ e) refl
-
-        pub parts_same : (code ≡ 6 → ⊥) → p ≡ exact_parts code p
-        unfolding exact_parts
-        parts_same n6 = rw (ne_eqb _ _ n3, ne_eqb _ _ n4, ne_eqb _ _ n5, ne_eqb _ _ n6) refl
-
   -- what holds of each way holds of the result
   by_code : (P : Parts → Type 0) → P (reciprocal_parts p) → P (floor_parts p) → P (ceiling_parts p) → (code ≡ 6 → P (mod_parts p)) → P p → P (exact_parts code p)
-  by_code P a b c d e = go (ℕ_discrete code 3) (ℕ_discrete code 4) (ℕ_discrete code 5) (ℕ_discrete code 6)
-    where
-      go : Dec (code ≡ 3) → Dec (code ≡ 4) → Dec (code ≡ 5) → Dec (code ≡ 6) → P (exact_parts code p)
-      go (yes i) j k l = subst P (parts_reciprocal i) a
-      go (no i) (yes j) k l = subst P (parts_floor i j) b
-      go (no i) (no j) (yes k) l = subst P (parts_ceiling i j k) c
-      go (no i) (no j) (no k) (yes l) = subst P (parts_mod i j k l) (d l)
-      go (no i) (no j) (no k) (no l) = subst P (parts_same i j k l) e
+  unfolding exact_parts
+  by_code P a b c d e =
+      if_case P (eqb code 3) _ _ (λ t. a)
+      (λ t. if_case P (eqb code 4) _ _ (λ u. b) (λ u. if_case P (eqb code 5) _ _ (λ v. c) (λ v. if_case P (eqb code 6) _ _ (λ w. d (eqb-true _ _ w)) (λ w. e))))
 
 module _ (code : ℕ) (s : Bool) where
-  pub zero_reciprocal : code ≡ 3 → Infinity s ≡ exact_zero code s
-  unfolding exact_zero
-  zero_reciprocal e = rw (eq-eqb _ _ e) refl
-
-  pub zero_same : (code ≡ 3 → ⊥) → code ≡ 7 → Zero s ≡ exact_zero code s
-  unfolding exact_zero
-  zero_same n e = rw (ne_eqb _ _ n, eq-eqb _ _ e) refl
-
-  pub zero_plain : (code ≡ 3 → ⊥) → (code ≡ 7 → ⊥) → Zero false ≡ exact_zero code s
-  unfolding exact_zero
-  zero_plain n m = rw (ne_eqb _ _ n, ne_eqb _ _ m) refl
-
-  pub infinity_reciprocal : code ≡ 3 → Zero s ≡ exact_infinity code s
-  unfolding exact_infinity
-  infinity_reciprocal e = rw (eq-eqb _ _ e) refl
-
-  pub infinity_mod : (code ≡ 3 → ⊥) → code ≡ 6 → NotANumber ≡ exact_infinity code s
-  unfolding exact_infinity
-  infinity_mod n e = rw (ne_eqb _ _ n, eq-eqb _ _ e) refl
-
-  pub infinity_same : (code ≡ 3 → ⊥) → (code ≡ 6 → ⊥) → Infinity s ≡ exact_infinity code s
-  unfolding exact_infinity
-  infinity_same n m = rw (ne_eqb _ _ n, ne_eqb _ _ m) refl
-
   -- what holds of zeros, infinities and not-a-number holds of either
   by_case : (P : Value → Type 0) → ((t : Bool) → P (Zero t)) → ((t : Bool) → P (Infinity t)) → P NotANumber → P (exact_zero code s) × P (exact_infinity code s)
+  unfolding exact_zero exact_infinity
   by_case P z i n = (
-    zero_case (ℕ_discrete code 3) (ℕ_discrete code 7),
-    infinity_case (ℕ_discrete code 3) (ℕ_discrete code 6),
+    if_case P (eqb code 3) _ _ (λ t. i s) (λ t. if_case P (eqb code 7) _ _ (λ u. z s) (λ u. z false)),
+    if_case P (eqb code 3) _ _ (λ t. z s) (λ t. if_case P (eqb code 6) _ _ (λ u. n) (λ u. i s)),
   )
-    where
-      zero_case : Dec (code ≡ 3) → Dec (code ≡ 7) → P (exact_zero code s)
-      zero_case (yes a) b = subst P (zero_reciprocal a) (i s)
-      zero_case (no a) (yes b) = subst P (zero_same a b) (z s)
-      zero_case (no a) (no b) = subst P (zero_plain a b) (z false)
-
-      infinity_case : Dec (code ≡ 3) → Dec (code ≡ 6) → P (exact_infinity code s)
-      infinity_case (yes a) b = subst P (infinity_reciprocal a) (z s)
-      infinity_case (no a) (yes b) = subst P (infinity_mod a b) n
-      infinity_case (no a) (no b) = subst P (infinity_same a b) (i s)
 
 -- ---- the exact result of what was read is not over 0
 
@@ -254,40 +205,20 @@ module _ (f : Format) (code w : ℕ) (c : check_word f w ≡ done tt) (v : Value
   test : {t : Bool} → b ≡ t → (leb code 2 && not (is_nan X.value)) ≡ t
   test e = ap (λ (u : Value). leb code 2 && not (is_nan u)) (sym value_is) ∙ sym be ∙ e
 
-  abbrev Made : ℕ → Type 0
-  Made r = (r ≡ unary_result f code w X) × (3 ≤ code → BestForValue f (exact_unary code X.value) r)
-
-  made : (r : ℕ) → r ≡ unary_result f code w X → Made r
-  made r e = (e, λ l. subst⁻¹ (λ (u : ℕ). BestForValue f (exact_unary code X.value) u) e (result_best f (checked_known f w c) code w X held l))
-
-  pub good_touched : (r : ℕ) → b ≡ true → r ≡ sign_touched f code w → Made r
+  pub good_touched : b ≡ true → sign_touched f code w ≡ unary_result f code w X
   unfolding unary_result
-  good_touched r t e = made r (e ∙ rw (test t) refl)
+  good_touched t = rw (test t) refl
 
-  pub good_written : (o : Outcome ℕ) (y : Value) (a : Bool) (r : ℕ) → b ≡ false → y ≡ exact_unary code v → a ≡ (number_in f w).approximate
-      → o ≡ write_number f (record { value = y; approximate = a }) → r ≡ or_zero o → Made r
-  unfolding unary_result or_zero
-  good_written o y a r t e ae oe re =
+  pub good_written : (y : Value) (a : Bool) → b ≡ false → y ≡ exact_unary code v → a ≡ (number_in f w).approximate
+      → write_number f (record { value = y; approximate = a }) ≡ done (unary_result f code w X)
+  unfolding unary_result
+  good_written y a t e ae =
       let ye : y ≡ exact_unary code X.value = e ∙ ap (exact_unary code) value_is in
       let me : a ≡ X.approximate = ae ∙ ap (λ (x : Number). x.approximate) (checked_number f w c) in
       let exact : Number = record { value = exact_unary code X.value; approximate = X.approximate } in
       let same : write_number f (record { value = y; approximate = a }) ≡ write_number f exact = rw (ye, me) refl in
       let written : done (word_for f exact.approximate exact.value) ≡ write_number f exact = write_done f exact (checked_known f w c) (over_exact f code X.value held) in
-      made r (re ∙ ap or_zero (oe ∙ same ∙ sym written) ∙ rw (test t) refl)
-
-  -- a fraction's, and any other's
-  pub good_fraction : (p : Parts) → v ≡ Fraction p → (a : Bool) (r : ℕ) → b ≡ false → a ≡ (number_in f w).approximate
-      → r ≡ or_zero (write_number f (record { value = Fraction (exact_parts code p); approximate = a })) → Made r
-  unfolding exact_unary
-  good_fraction p e a r t ae re = good_written _ (Fraction (exact_parts code p)) a r t (rw e refl) ae refl re
-
-pub fraction_written : (f : Format) (code : ℕ) (p q : Parts) (m : Bool) (o : Outcome ℕ) (r : ℕ) → q ≡ exact_parts code p
-    → o ≡ write_number f (record { value = Fraction q; approximate = m }) → r ≡ or_zero o → r ≡ or_zero (write_number f (record { value = Fraction (exact_parts code p); approximate = m }))
-fraction_written f code p q m o r qe oe re = re ∙ rw (oe, qe) refl
-
-pub special_written : (f : Format) (code : ℕ) (v y : Value) (m : Bool) (o : Outcome ℕ) (r : ℕ) → y ≡ exact_unary code v
-    → o ≡ write_number f (record { value = y; approximate = m }) → r ≡ or_zero o → r ≡ or_zero (write_number f (record { value = exact_unary code v; approximate = m }))
-special_written f code v y m o r ye oe re = re ∙ rw (oe, ye) refl
+      same ∙ sym written ∙ rw (test t) refl
 
 -- a call's stops first, and then its word
 module _ (f : Format) (code w : ℕ) where
@@ -300,15 +231,15 @@ module _ (f : Format) (code w : ℕ) where
   unary_good e = go (check_format f) (is_unary code) e
     where
       go : (k : Outcome (Unit {0})) (u : Bool) → done tt ≡ (k then λ _. if not u then stop 2 0 else check_word f w) → check_word f w ≡ done tt
-      go (stop n p) u h = absurd (no_stop (sym h))
-      go (done x) false h = absurd (no_stop (sym h))
-      go (done x) true h = sym h
+      go (Err s) u h = absurd (no_stop (sym h))
+      go (Ok x) false h = absurd (no_stop (sym h))
+      go (Ok x) true h = sym h
 
   abbrev pub BestHere : ℕ → Type 0
   BestHere v = 3 ≤ code → BestForValue f (exact_unary code (number_of f w).value) v
 
   -- the stops of `unary`
-  pub stop_format : {n p : ℕ} → stop n p ≡ check_format f → stop n p ≡ unary_word f code w
+  pub stop_format : {s : Stop} → Err s ≡ check_format f → Err s ≡ unary_word f code w
   unfolding check_unary
   stop_format e = checked_stop _ _ unary_checked (then_stop _ e)
 
@@ -324,7 +255,7 @@ module _ (f : Format) (code w : ℕ) where
       unfolding check_unary
       check_word_lem = rw (format_good f h, i) refl
 
-      pub stop_word : {n p : ℕ} → stop n p ≡ check_word f w → stop n p ≡ unary_word f code w
+      pub stop_word : {s : Stop} → Err s ≡ check_word f w → Err s ≡ unary_word f code w
       stop_word e = checked_stop _ _ unary_checked (e ∙ check_word_lem)
 
       -- a vector form stops as the check of its words does
@@ -332,8 +263,8 @@ module _ (f : Format) (code w : ℕ) where
       unary_stop_only = stop_checked _ _ _ unary_checked ∙ sym check_word_lem
 
       -- and its word, of a good word
-      pub unary_made : check_word f w ≡ done tt → (r : ℕ) → (r ≡ unary_result f code w (number_of f w)) × BestHere r → (done r ≡ unary_word f code w) × BestHere r
-      unary_made good r m = (checked_made _ _ unary_checked (sym good ∙ check_word_lem) m.0, m.1)
+      pub unary_made : check_word f w ≡ done tt → {r : ℕ} → r ≡ unary_result f code w (number_of f w) → done r ≡ unary_word f code w
+      unary_made good e = checked_made _ _ unary_checked (sym good ∙ check_word_lem) e
 
   -- what holds of the word that a code makes of a good word holds of what `unary` makes
   pub when_unary : (P : ℕ → Type 0) → (check_word f w ≡ done tt → P (unary_result f code w (number_of f w))) → WhenDone (unary_word f code w) P
@@ -345,6 +276,14 @@ module _ (f : Format) (code w : ℕ) where
   -- Every word that codes 3 to 7 make is the best for the exact value.
   pub unary_best : WhenDone (unary_word f code w) BestHere
   unary_best = when_unary BestHere (λ c. result_best f (checked_known f w c) code w (number_of f w) (held_number c))
+
+  -- the same of what `unary` answers
+  pub best_answered : {o : Outcome ℕ} → o ≡ unary_word f code w → 3 ≤ code → WhenDone o (λ v. BestForValue f (exact_unary code (number_of f w).value) v)
+  best_answered {o} e l = go o (subst⁻¹ (λ (p : Outcome ℕ). WhenDone p BestHere) e unary_best)
+    where
+      go : (p : Outcome ℕ) → WhenDone p BestHere → WhenDone p (λ v. BestForValue f (exact_unary code (number_of f w).value) v)
+      go (Err s) b = tt
+      go (Ok v) b = b l
 
   -- And it is canonical.
   pub unary_canonical : 3 ≤ code → (v : ℕ) → unary_word f code w ≡ done v → CanonicalWord f v

@@ -1,11 +1,11 @@
 // Negate and absolute value, which touch only the sign of a word.
 ghost use Rattle.std.specs.Prelude.{◌≡◌, true, not, ◌&&◌, leb, ◌<◌};
 ghost use Rattle.slash.specs.Bits.{bit};
-ghost use Rattle.slash.specs.Formats.{known};
+ghost use Rattle.slash.specs.Formats.{of_known};
 ghost use Rattle.slash.specs.Numbers.{is_nan};
 ghost use Rattle.unary.specs.Signs.{with_highest, new_sign, sign_touched};
 
-use slash::{Answer, Format, Value};
+use slash::{Format, Stop, Value};
 
 // Their codes.
 pub(crate) const NEGATE: u64 = 1;
@@ -31,14 +31,11 @@ fn touch_highest(highest: u64, code: u64, w: u64) -> u64
 }
 
 // Code 1 turns the sign of a word, code 2 takes it off.
-pub(crate) fn touch_sign(f: Format, code: u64, w: u64) -> u64
-    requires { known f ≡ true }
-    ensures { result ≡ sign_touched f code w }
+pub(crate) fn touch_sign(f: Format, code: u64, w: u64) -> Result<u64, Stop>
+    ensures { result ≡ of_known f (sign_touched f code w) }
 {
-    let Answer::Done(width) = f.width() else {
-        return 0;
-    };
-    touch_highest(width - 1, code, w)
+    let width = f.width()?;
+    Ok(touch_highest(width - 1, code, w))
 }
 
 // Whether a code touches only the sign of a value.
