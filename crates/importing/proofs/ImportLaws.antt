@@ -10,10 +10,10 @@ use native.Mathlib.Nat.{not-suc-le-zero, le_of_suc-le-suc}
 use lib.ListN.{length, take, drop, length-drop}
 use lib.Seq.{drop-drop, take_all}
 use borrow.Author.Tests.{eq-eqb, ne_eqb}
-use Rattle.slash.specs.Answers.{stop, done, completion_outcome}
+use Rattle.std.specs.Prelude.{Ok, Err}
+use Rattle.slash.specs.Answers.{Outcome, stop, done}
 use Rattle.slash.specs.Steps.{or_zero}
 use Rattle.slash.specs.declared.answer.Stop.{Stop}
-use Rattle.slash.specs.declared.answer.Completion.{Completion}
 use Rattle.vectors.specs.Each.{each, vector_after, stop_only, EachPlace}
 use Rattle.vectors.specs.Checks.{checks}
 use Rattle.vectors.proofs.EachLaws.{each_stopped, each_done}
@@ -80,15 +80,15 @@ module _ (bytes words : List ℕ) where
       unfolding records_in
       same_records = ap (λ (n : ℕ). first_records n bytes) (sym equal)
 
-      module _ (res : Completion) (re : completion_outcome res ≡ checks check_record 0 (first_records (length words) bytes)) where
-        all_checked : completion_outcome res ≡ checks check_record 0 (records_in bytes)
+      module _ (res : Outcome (Unit {0})) (re : res ≡ checks check_record 0 (first_records (length words) bytes)) where
+        all_checked : res ≡ checks check_record 0 (records_in bytes)
         all_checked = re ∙ ap (checks check_record 0) same_records
 
-        pub import_stopped : (s : Stop) → res ≡ Completion.Stopped s
-            → (stop s.number s.place ≡ stop_only (import_each bytes words)) × ((words ≡ vector_after (import_each bytes words) words) × Unit {0})
+        pub import_stopped : (s : Stop) → res ≡ Err s
+            → (Err s ≡ stop_only (import_each bytes words)) × ((words ≡ vector_after (import_each bytes words) words) × Unit {0})
         import_stopped s e = each_stopped record_word check_record stops_alike BestRecord record_best (records_in bytes) words (import_each bytes words) import_all res all_checked s e
 
-        pub import_done : res ≡ Completion.Done → (new : List ℕ) → new ≡ map (λ x. or_zero (record_word x)) (first_records (length words) bytes)
+        pub import_done : res ≡ Ok tt → (new : List ℕ) → new ≡ map (λ x. or_zero (record_word x)) (first_records (length words) bytes)
             → (done tt ≡ stop_only (import_each bytes words)) × ((new ≡ vector_after (import_each bytes words) words) × EachPlace BestRecord (records_in bytes) new)
         import_done e new ne =
             each_done record_word check_record stops_alike BestRecord record_best (records_in bytes) words (import_each bytes words) import_all res all_checked e new

@@ -15,10 +15,12 @@ use lib.Ieee.Positive.{num, den}
 use borrow.Author.Tests.{lt-ltb, le-leb, leb-true, ltb-true, eqb-true, eq-eqb, ne_eqb}
 use Rattle.convergents.specs.Pairs.{differs}
 use Rattle.convergents.specs.Rounding.{round}
+use Rattle.std.specs.Prelude.{Ok, Err}
 use Rattle.slash.specs.Answers.{Outcome, stop, done, ◌then◌, WhenDone}
 use Rattle.slash.specs.Steps.{or_zero}
 use Rattle.slash.specs.Formats.{holds}
 use Rattle.slash.specs.Reading.{number_of}
+use Rattle.slash.specs.declared.answer.Stop.{Stop}
 use Rattle.slash.proofs.AnswerLaws.{done_inj, and_parts, if_case}
 use Rattle.vectors.specs.Each.{stop_only}
 use Rattle.vectors.proofs.EachLaws.{word_at}
@@ -27,10 +29,9 @@ use Rattle.breaths.specs.declared.ratio.Ratio.{Ratio}
 use Rattle.breaths.proofs.RatioLaws.{ratio_best, ratio_rounded, ratio_mark, parts_some}
 use Rattle.importing.specs.Floats.{least, one, beyond, is_timing, are_timings, is_ratio, float_ratio}
 use Rattle.importing.specs.Records.{Record, Content, timings, ratio, lowest_first, number_at, record_of, content_of, content_ratio, record_word, BestRecord}
-use Rattle.importing.specs.Steps.{bits_of, imported_content, record_outcome, InOrder, KeepsRules, rounded_ratio, check_record}
+use Rattle.importing.specs.Steps.{bits_of, imported_content, InOrder, KeepsRules, rounded_ratio, check_record}
 use Rattle.importing.specs.declared.record.Timings.{Timings}
 use Rattle.importing.specs.declared.record.Imported.{Imported}
-use Rattle.importing.specs.declared.record.RecordReading.{RecordReading}
 use Rattle.importing.proofs.ValueLaws.{some_value, ratio_exact, number_exact}
 use Rattle.importing.proofs.FloatLaws.{bits_back, some_denominator}
 
@@ -111,16 +112,16 @@ module _ (a b : ℕ) where
 
   -- the floats that are made of the bits hold them
   pub timed_floats : InOrder a b
-      → record_outcome (RecordReading.Done (Imported.Timings (record { inspiration = of_bits binary32 a; whole = of_bits binary32 b })))
+      → done (imported_content (Imported.Timings (record { inspiration = of_bits binary32 a; whole = of_bits binary32 b })))
       ≡ content_of (record { kind = 1; first = a; second = b })
-  unfolding record_outcome imported_content
+  unfolding imported_content
   timed_floats o =
       ap₂ (λ (x y : ℕ). done (timings x y)) (bits_back a (lt_of_le_of_lt o.order o.below)) (bits_back b o.below)
       ∙ timed o
 
   pub given_float : InOrder a one → b ≡ 0
-      → record_outcome (RecordReading.Done (Imported.Ratio (of_bits binary32 a))) ≡ content_of (record { kind = 2; first = a; second = b })
-  unfolding record_outcome imported_content
+      → done (imported_content (Imported.Ratio (of_bits binary32 a))) ≡ content_of (record { kind = 2; first = a; second = b })
+  unfolding imported_content
   given_float o z = ap (λ (x : ℕ). done (ratio x)) (bits_back a (lt_of_le_of_lt o.order o.below)) ∙ given o z
 
 -- the parts of what an imported record holds, and its ratio
@@ -185,30 +186,33 @@ pub content_exact : (r : Record) → WhenDone (content_of r) IsExact
 content_exact r = go (content_of r) (content_keeps r)
   where
     go : (o : Outcome Content) → WhenDone o KeepsRules → WhenDone o IsExact
-    go (stop n p) k = tt
-    go (done c) k = rules_exact c k
+    go (Err t) k = tt
+    go (Ok c) k = rules_exact c k
 
-module _ (r : Record) (read : RecordReading) (re : record_outcome read ≡ content_of r) where
-  pub read_content : (i : Imported) → read ≡ RecordReading.Done i → content_of r ≡ done (imported_content i)
-  unfolding record_outcome
-  read_content i e = sym re ∙ ap record_outcome e
+-- what a record holds, of what its reading made
+abbrev pub held : Outcome Imported → Outcome Content
+held read = read then λ i. done (imported_content i)
 
-  pub read_rules : (i : Imported) → read ≡ RecordReading.Done i → KeepsRules (imported_content i)
+module _ (r : Record) (read : Outcome Imported) (re : held read ≡ content_of r) where
+  pub read_content : (i : Imported) → read ≡ Ok i → content_of r ≡ done (imported_content i)
+  read_content i e = sym re ∙ ap held e
+
+  pub read_rules : (i : Imported) → read ≡ Ok i → KeepsRules (imported_content i)
   read_rules i e = subst (λ (o : Outcome Content). WhenDone o KeepsRules) (read_content i e) (content_keeps r)
 
   -- a good record, and the stop of another
-  pub read_good : (i : Imported) → read ≡ RecordReading.Done i → done tt ≡ check_record r
+  pub read_good : {i : Imported} → read ≡ Ok i → done tt ≡ check_record r
   unfolding check_record stop_only
-  read_good i e = sym (ap stop_only (read_content i e))
+  read_good {i} e = sym (ap stop_only (read_content i e))
 
-  pub read_stop : (n : ℕ) → read ≡ RecordReading.Stopped n → stop n 0 ≡ check_record r
-  unfolding check_record stop_only record_outcome
-  read_stop n e = ap stop_only (sym (ap record_outcome e) ∙ re)
+  pub read_stop : {s : Stop} → read ≡ Err s → Err s ≡ check_record r
+  unfolding check_record stop_only
+  read_stop e = ap stop_only (sym (ap held e) ∙ re)
 
   -- the answers of `word_of`
-  pub word_stop : (n : ℕ) → read ≡ RecordReading.Stopped n → 0 ≡ or_zero (record_word r)
-  unfolding record_word record_outcome or_zero
-  word_stop n e = rw (sym re ∙ ap record_outcome e) refl
+  pub word_stop : {s : Stop} → read ≡ Err s → 0 ≡ or_zero (record_word r)
+  unfolding record_word or_zero
+  word_stop e = rw (sym re ∙ ap held e) refl
 
 -- the denominator of a record's ratio is never 0
 content_some : (c : Content) → 1 ≤ (content_ratio c).denominator
@@ -223,7 +227,7 @@ rounded_word : (c : Content) → word_of (rounded_ratio (content_ratio c)) ≡ w
 unfolding rounded_ratio word_of
 rounded_word c = ap word_of (parts_some _ _ (content_some c))
 
-module _ (r : Record) (read : RecordReading) (re : record_outcome read ≡ content_of r) (i : Imported) (e : read ≡ RecordReading.Done i) where
+module _ (r : Record) (read : Outcome Imported) (re : held read ≡ content_of r) (i : Imported) (e : read ≡ Ok i) where
   pub word_good : (x : Ratio) (w : ℕ) → x ≡ rounded_ratio (content_ratio (imported_content i)) → w ≡ word_of x → w ≡ or_zero (record_word r)
   unfolding record_word or_zero
   word_good x w xe we = we ∙ ap word_of xe ∙ rounded_word (imported_content i) ∙ rw (read_content r read re i e) refl
@@ -235,8 +239,8 @@ unfolding record_word check_record stop_only
 stops_alike r = go (content_of r)
   where
     go : (o : Outcome Content) → stop_only (o then λ c. done (word_from c)) ≡ stop_only o
-    go (stop n p) = refl
-    go (done c) = refl
+    go (Err t) = refl
+    go (Ok c) = refl
 
 -- Demand 2, and the mark: a record's word is its exact ratio cut to the last convergent that the format holds, marked if that changed its value.
 pub record_rounded : (r : Record) (c : Content) → content_of r ≡ done c → (w : ℕ) → record_word r ≡ done w
@@ -254,5 +258,5 @@ unfolding record_word BestRecord
 record_best r = go (content_of r) refl
   where
     go : (o : Outcome Content) → content_of r ≡ o → WhenDone (content_of r then λ c. done (word_from c)) (λ w. BestRecord r w)
-    go (stop n p) e = rw e tt
-    go (done c) e = rw e (ratio_best _ _ (content_some c))
+    go (Err t) e = rw e tt
+    go (Ok c) e = rw e (ratio_best _ _ (content_some c))

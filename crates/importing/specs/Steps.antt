@@ -1,16 +1,15 @@
--- For the code and the proofs alone: what a record that was read stands for, and the rules that its numbers keep.
+-- For the code and the proofs alone: what a record that was read holds, and the rules that its numbers keep.
 use Rattle.std.specs.Prelude.{ℕ, ◌≤◌, ◌<◌, Float}
 use Rattle.std.specs.Float.{binary32}
 use Rattle.std.specs.Float.Ieee.{to_bits}
 use Rattle.convergents.specs.Pairs.{Pair}
-use Rattle.slash.specs.Answers.{Outcome, stop, done}
+use Rattle.slash.specs.Answers.{Outcome}
 use Rattle.vectors.specs.Each.{stop_only}
 use Rattle.breaths.specs.Ratios.{parts_ratio}
 use Rattle.breaths.specs.declared.ratio.Ratio.{Ratio}
 use Rattle.importing.specs.Floats.{least, one, beyond}
 use Rattle.importing.specs.Records.{Record, Content, timings, ratio, content_of}
 use Rattle.importing.specs.declared.record.Imported.{Imported}
-use Rattle.importing.specs.declared.record.RecordReading.{RecordReading}
 
 abbrev pub bits_of : Float → ℕ
 bits_of x = to_bits binary32 x
@@ -19,11 +18,6 @@ bits_of x = to_bits binary32 x
 unfoldable pub imported_content : Imported → Content
 imported_content (Imported.Timings t) = timings (bits_of t.inspiration) (bits_of t.whole)
 imported_content (Imported.Ratio x) = ratio (bits_of x)
-
--- The outcome that a reading stands for.
-unfoldable pub record_outcome : RecordReading → Outcome Content
-record_outcome (RecordReading.Done i) = done (imported_content i)
-record_outcome (RecordReading.Stopped number) = stop number 0
 
 -- Two numbers from 2^-10 to below 2^10, the first no larger than the second.
 pub record InOrder (first second : ℕ) : Type 0 where

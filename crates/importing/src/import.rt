@@ -1,40 +1,34 @@
 // Records imported: the word of each into a lent vector.
 ghost use Rattle.std.specs.Prelude.{◌≡◌, map, ◌*◌, length};
 ghost use Rattle.slash.specs.Steps.{or_zero};
-ghost use Rattle.slash.specs.Answers.{completion_outcome, WhenDone};
+ghost use Rattle.slash.specs.Answers.{WhenDone};
 ghost use Rattle.vectors.specs.Each.{vector_after, stop_only, EachPlace};
 ghost use Rattle.vectors.specs.Checks.{checks};
 ghost use Rattle.importing.specs.Records.{record_word, BestRecord};
 ghost use Rattle.importing.specs.Imports.{first_records, records_in, import_each};
 ghost use Rattle.importing.specs.Steps.{check_record};
 
-use crate::record::{RecordReading, read_record, word_of};
+use crate::record::{read_record, word_of};
 use crate::stop;
-use slash::{Completion, Stop};
+use slash::Stop;
 
 // How many bytes a record has.
 const RECORD: usize = 12;
 
 // The first stop of the records.
-fn check_records(records: &[u8], count: usize) -> Completion
+fn check_records(records: &[u8], count: usize) -> Result<(), Stop>
     requires { 12 * count ≡ length records.now }
-    ensures { completion_outcome result ≡ checks check_record 0 (first_records count records.now) }
+    ensures { result ≡ checks check_record 0 (first_records count records.now) }
 {
-    let mut i = 0;
-    while i < count {
-        match read_record(&records[RECORD * i..]) {
-            RecordReading::Stopped(number) => {
-                return Completion::Stopped(Stop {
-                    number: number,
-                    place: i as u64,
-                });
-            }
-            RecordReading::Done(_) => {
-                i += 1;
-            }
+    for i in 0..count {
+        if let Err(s) = read_record(&records[RECORD * i..]) {
+            return Err(Stop {
+                number: s.number,
+                place: i as u64,
+            });
         }
     }
-    Completion::Done
+    Ok(())
 }
 
 // The records have been checked, so that none gives 0 for a stop.
@@ -42,31 +36,24 @@ fn store_words(records: &[u8], words: &mut [u64])
     requires { 12 * length words.old ≡ length records.now }
     ensures { words.new ≡ map (λ x. or_zero (record_word x)) (first_records (length words.old) records.now) }
 {
-    let mut i = 0;
-    while i < words.len() {
-        words[i] = word_of(&records[RECORD * i..]);
-        i += 1;
+    for (i, word) in words.iter_mut().enumerate() {
+        *word = word_of(&records[RECORD * i..]);
     }
 }
 
 // The word of each record. All records are checked before any word is stored.
-pub fn import_records(records: &[u8], words: &mut [u64]) -> Completion
-    ensures answered { completion_outcome result ≡ stop_only (import_each records.now words.old) }
+pub fn import_records(records: &[u8], words: &mut [u64]) -> Result<(), Stop>
+    ensures answered { result ≡ stop_only (import_each records.now words.old) }
     ensures stored { words.new ≡ vector_after (import_each records.now words.old) words.old }
-    ensures best { WhenDone (completion_outcome result) (λ _. EachPlace BestRecord (records_in records.now) words.new) }
+    ensures best { WhenDone result (λ _. EachPlace BestRecord (records_in records.now) words.new) }
 {
     if records.len() % RECORD != 0 {
-        return Completion::Stopped(Stop::plain(stop::BYTES));
+        return Err(Stop::plain(stop::BYTES));
     }
     if records.len() / RECORD != words.len() {
-        return Completion::Stopped(Stop::plain(Stop::LENGTH));
+        return Err(Stop::plain(Stop::LENGTH));
     }
-    let checked = check_records(records, words.len());
-    match checked {
-        Completion::Stopped(s) => Completion::Stopped(s),
-        Completion::Done => {
-            store_words(records, words);
-            Completion::Done
-        }
-    }
+    check_records(records, words.len())?;
+    store_words(records, words);
+    Ok(())
 }

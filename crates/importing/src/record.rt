@@ -1,13 +1,15 @@
 // A record: what it holds, how it is read, and its word.
 ghost use Rattle.std.specs.Prelude.{◌≡◌, [], ◌∷◌, ◌+◌, ◌≤◌, length};
+ghost use Rattle.slash.specs.Answers.{done, ◌then◌};
 ghost use Rattle.slash.specs.Steps.{or_zero};
 ghost use Rattle.importing.specs.Floats.{float_ratio};
 ghost use Rattle.importing.specs.Records.{lowest_first, number_at, record_of, content_of, content_ratio, record_word};
-ghost use Rattle.importing.specs.Steps.{bits_of, imported_content, record_outcome, InOrder, KeepsRules, rounded_ratio};
+ghost use Rattle.importing.specs.Steps.{bits_of, imported_content, InOrder, KeepsRules, rounded_ratio};
 
 use crate::float::ratio_of;
 use crate::{float, stop};
 use breaths::Ratio;
+use slash::Stop;
 
 // Seconds of breathing in, and of the whole breath.
 #[derive(Clone, Copy)]
@@ -21,13 +23,6 @@ pub(crate) struct Timings {
 pub(crate) enum Imported {
     Timings(Timings),
     Ratio(f32),
-}
-
-// What reading a record comes to: what it holds, or the number of its stop.
-#[derive(Clone, Copy)]
-pub(crate) enum RecordReading {
-    Done(Imported),
-    Stopped(u64),
 }
 
 impl Timings {
@@ -69,47 +64,44 @@ fn number_at(bytes: &[u8], at: usize) -> u32
 
 // Kind 1. Numbers without the sign are in the order of their bits, and all other bits are beyond them: so
 // the tests are on the bits, and no float is made of bits that break the rules.
-fn read_timings(first: u32, second: u32) -> RecordReading
-    ensures { record_outcome result ≡ content_of (record { kind = 1; first = first; second = second }) }
+fn read_timings(first: u32, second: u32) -> Result<Imported, Stop>
+    ensures { (result then λ i. done (imported_content i)) ≡ content_of (record { kind = 1; first = first; second = second }) }
 {
     if first < float::LEAST {
-        return RecordReading::Stopped(stop::NUMBER);
+        return Err(Stop::plain(stop::NUMBER));
     }
     if second < first {
-        return RecordReading::Stopped(stop::NUMBER);
+        return Err(Stop::plain(stop::NUMBER));
     }
     if float::BEYOND <= second {
-        return RecordReading::Stopped(stop::NUMBER);
+        return Err(Stop::plain(stop::NUMBER));
     }
     let inspiration = f32::from_bits(first);
     let whole = f32::from_bits(second);
-    RecordReading::Done(Imported::Timings(Timings {
-        inspiration: inspiration,
-        whole: whole,
-    }))
+    Ok(Imported::Timings(Timings { inspiration, whole }))
 }
 
 // Kind 2.
-fn read_ratio(first: u32, second: u32) -> RecordReading
-    ensures { record_outcome result ≡ content_of (record { kind = 2; first = first; second = second }) }
+fn read_ratio(first: u32, second: u32) -> Result<Imported, Stop>
+    ensures { (result then λ i. done (imported_content i)) ≡ content_of (record { kind = 2; first = first; second = second }) }
 {
     if first < float::LEAST {
-        return RecordReading::Stopped(stop::NUMBER);
+        return Err(Stop::plain(stop::NUMBER));
     }
     if float::ONE < first {
-        return RecordReading::Stopped(stop::NUMBER);
+        return Err(Stop::plain(stop::NUMBER));
     }
     if second != 0 {
-        return RecordReading::Stopped(stop::NUMBER);
+        return Err(Stop::plain(stop::NUMBER));
     }
     let number = f32::from_bits(first);
-    RecordReading::Done(Imported::Ratio(number))
+    Ok(Imported::Ratio(number))
 }
 
 // The record that some bytes begin with.
-pub(crate) fn read_record(bytes: &[u8]) -> RecordReading
+pub(crate) fn read_record(bytes: &[u8]) -> Result<Imported, Stop>
     requires { 12 ≤ length bytes.now }
-    ensures { record_outcome result ≡ content_of (record_of bytes.now) }
+    ensures { (result then λ i. done (imported_content i)) ≡ content_of (record_of bytes.now) }
 {
     let kind = number_at(bytes, 0);
     let first = number_at(bytes, 4);
@@ -117,7 +109,7 @@ pub(crate) fn read_record(bytes: &[u8]) -> RecordReading
     match kind {
         1 => read_timings(first, second),
         2 => read_ratio(first, second),
-        _ => RecordReading::Stopped(stop::KIND),
+        _ => Err(Stop::plain(stop::KIND)),
     }
 }
 
@@ -127,7 +119,7 @@ pub(crate) fn word_of(bytes: &[u8]) -> u64
     ensures { result ≡ or_zero (record_word (record_of bytes.now)) }
 {
     match read_record(bytes) {
-        RecordReading::Done(i) => i.ratio().word(),
-        RecordReading::Stopped(_) => 0,
+        Ok(i) => i.ratio().word(),
+        Err(_) => 0,
     }
 }

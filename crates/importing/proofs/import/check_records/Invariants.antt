@@ -1,5 +1,4 @@
 use mathlib.Core.Path.{◌≡◌}
-use Prim.Native.Nat.{◌≤◌, ◌-◌}
 use lib.ListN.{drop}
 use Rattle.vectors.specs.Checks.{checks}
 use Rattle.importing.specs.Imports.{first_records}
@@ -7,7 +6,4 @@ use Rattle.importing.specs.Steps.{check_record}
 use Rattle.importing.proofs.import.check_records.Given as goal
 
 abbrev pub invariant-loop-i : goal.invariant-loop-i
-invariant-loop-i l = (l.i ≤ l.count) × (checks check_record l.i (drop l.i (first_records l.count l.records)) ≡ checks check_record 0 (first_records l.count l.records))
-
-abbrev pub decreases-loop-i : goal.decreases-loop-i
-decreases-loop-i l = l.count - l.i
+invariant-loop-i l = checks check_record l.i (drop l.i (first_records l.count l.records)) ≡ checks check_record 0 (first_records l.count l.records)

@@ -1,4 +1,4 @@
-use Prim.Native.Nat.{ℕ, ◌-◌}
+use Prim.Native.Nat.{ℕ}
 use lib.ListN.{length}
 use Rattle.slash.specs.Steps.{or_zero}
 use Rattle.vectors.specs.Steps.{Storing}
@@ -11,6 +11,3 @@ word x = or_zero (record_word x)
 
 abbrev pub invariant-loop-i : goal.invariant-loop-i
 invariant-loop-i l = Storing word (first_records (length l.initial.words) l.records) l.initial.words l.words l.i
-
-abbrev pub decreases-loop-i : goal.decreases-loop-i
-decreases-loop-i l = length l.initial.words - l.i

@@ -1,5 +1,5 @@
 use mathlib.Core.Path.{◌∙◌}
-use Rattle.importing.specs.Steps.{record_outcome}
+use Rattle.slash.proofs.AnswerLaws.{plain_stop}
 use Rattle.importing.proofs.RecordLaws.{record_is, record_kind, no_kind}
 use Rattle.importing.proofs.record.read_record.Goals as goal
 
@@ -10,5 +10,4 @@ pub returns-in-2 : goal.returns-in-2
 returns-in-2 c = c.read_ratio.ensures ∙ record_kind _ _ _ c.in-2.is ∙ record_is _ _ _ _ c.number_at-kind.ensures c.number_at-first.ensures c.number_at-second.ensures
 
 pub returns-in_default : goal.returns-in_default
-unfolding record_outcome
-returns-in_default c = no_kind _ _ _ c.in_default.in_default-own.rest.0.1 c.in_default.in_default-own.rest.1 ∙ record_is _ _ _ _ c.number_at-kind.ensures c.number_at-first.ensures c.number_at-second.ensures
+returns-in_default c = plain_stop _ 17 c.plain.ensures (no_kind _ _ _ c.in_default.in_default-own.rest.0.1 c.in_default.in_default-own.rest.1 ∙ record_is _ _ _ _ c.number_at-kind.ensures c.number_at-first.ensures c.number_at-second.ensures)
