@@ -8,12 +8,12 @@ use native.Mathlib.Omega.{arith}
 use lib.ListN.{length}
 use lib.Dec.{eqb}
 use borrow.Author.Tests.{eq-eqb, ne_eqb, eqb-true, eqb-false}
-use Rattle.slash.specs.Answers.{Outcome, stop, done, WhenDone, completion_outcome}
+use Rattle.std.specs.Prelude.{Ok, Err}
+use Rattle.slash.specs.Answers.{Outcome, stop, done, WhenDone}
 use Rattle.slash.specs.Steps.{or_zero}
 use Rattle.slash.specs.Formats.{known, is_fixed}
 use Rattle.slash.specs.Reading.{check_word}
 use Rattle.slash.specs.declared.answer.Stop.{Stop}
-use Rattle.slash.specs.declared.answer.Completion.{Completion}
 use Rattle.slash.specs.declared.format.Format.{Format}
 use Rattle.slash.proofs.AnswerLaws.{no_stop, done_inj, then_stop, zero_done}
 use Rattle.vectors.specs.Each.{at_place, each, vector_after, stop_only}
@@ -30,7 +30,7 @@ use Rattle.twisting.proofs.TwistingLaws.{floating_known, rearrange_done, twist_u
 -- ---- the stops
 
 module _ (way : ℕ → ℕ → ℕ → ℕ) (f : Format) (operand out : List ℕ) where
-  pub each_format : {n p : ℕ} → stop n p ≡ check_floating f → stop n p ≡ rearrange_each way f operand out
+  pub each_format : {s : Stop} → Err s ≡ check_floating f → Err s ≡ rearrange_each way f operand out
   unfolding rearrange_each
   each_format e = then_stop _ e
 
@@ -57,10 +57,10 @@ module _ (way : ℕ → ℕ → ℕ → ℕ) (f : Format) (c : done tt ≡ check
     where
       go : (o : Outcome (Unit {0})) → check_word f x ≡ o → (checks (check_word f) (suc i) xs ≡ done tt → map (rearranged way f.k) xs ≡ map (λ y. or_zero (rearrange way f y)) xs)
           → map (rearranged way f.k) (x ∷ xs) ≡ map (λ y. or_zero (rearrange way f y)) (x ∷ xs)
-      go (stop n p) e ih =
-          let d : stop n i ≡ checks (check_word f) i (x ∷ xs) = rw e refl in
+      go (Err s) e ih =
+          let d : stop s.number i ≡ checks (check_word f) i (x ∷ xs) = rw e refl in
           absurd (no_stop (d ∙ h))
-      go (done u) e ih =
+      go (Ok u) e ih =
           let d : checks (check_word f) (suc i) xs ≡ checks (check_word f) i (x ∷ xs) = rw e refl in
           ap₂ (λ (y : ℕ) (ys : List ℕ). y ∷ ys) (zero_done (rearrange_done way f x c (sym e) refl)) (ih (d ∙ h))
 
@@ -77,27 +77,27 @@ module _ (f : Format) (h : (known f ≡ true) × (is_fixed f ≡ false)) where
   all_checked xs g = words_good 0 xs g ∙ words_all f xs h.0
 
 -- a stop before the words are looked at
-pub stopped_before : {n p : ℕ} (o : Outcome (List ℕ)) (old : List ℕ) → stop n p ≡ o → (stop n p ≡ stop_only o) × (old ≡ vector_after o old)
+pub stopped_before : {s : Stop} (o : Outcome (List ℕ)) (old : List ℕ) → Err s ≡ o → (Err s ≡ stop_only o) × (old ≡ vector_after o old)
 stopped_before o old e = let t = refused o old e in (t.0, t.1.0)
 
 -- nothing more is said of a word
 said : (o : Outcome ℕ) → WhenDone o (λ _. Unit {0})
-said (stop n p) = tt
-said (done w) = tt
+said (Err s) = tt
+said (Ok w) = tt
 
 module _ (way : ℕ → ℕ → ℕ → ℕ) (f : Format) (operand out : List ℕ) (c : done tt ≡ check_floating f) (e : length operand ≡ length out) where
-  module _ (res : Completion) (re : completion_outcome res ≡ checked_words f operand) where
-    pub rearranged_stopped : (s : Stop) → res ≡ Completion.Stopped s
-        → (stop s.number s.place ≡ stop_only (rearrange_each way f operand out)) × (out ≡ vector_after (rearrange_each way f operand out) out)
+  module _ (res : Outcome (Unit {0})) (re : res ≡ checked_words f operand) where
+    pub rearranged_stopped : (s : Stop) → res ≡ Err s
+        → (Err s ≡ stop_only (rearrange_each way f operand out)) × (out ≡ vector_after (rearrange_each way f operand out) out)
     rearranged_stopped s h =
         let t = each_stopped (rearrange way f) (check_word f) (stops_alike way f c) (λ _ _. Unit {0}) (λ x. said (rearrange way f x)) operand out (rearrange_each way f operand out) (each_all way f operand out c e) res (re ∙ sym (words_all f operand (floating_known f c).0)) s h in
         (t.0, t.1.0)
 
-    pub rearranged_done : res ≡ Completion.Done → (new : List ℕ) → new ≡ map (rearranged way f.k) operand
+    pub rearranged_done : res ≡ Ok tt → (new : List ℕ) → new ≡ map (rearranged way f.k) operand
         → (done tt ≡ stop_only (rearrange_each way f operand out)) × (new ≡ vector_after (rearrange_each way f operand out) out)
     rearranged_done h new ne =
-        let all : completion_outcome res ≡ checks (check_word f) 0 operand = re ∙ sym (words_all f operand (floating_known f c).0) in
-        let good : checks (check_word f) 0 operand ≡ done tt = sym all ∙ ap completion_outcome h in
+        let all : res ≡ checks (check_word f) 0 operand = re ∙ sym (words_all f operand (floating_known f c).0) in
+        let good : checks (check_word f) 0 operand ≡ done tt = sym all ∙ h in
         let t = each_done (rearrange way f) (check_word f) (stops_alike way f c) (λ _ _. Unit {0}) (λ x. said (rearrange way f x)) operand out (rearrange_each way f operand out) (each_all way f operand out c e) res all h new (ne ∙ words_stored way f c 0 operand good) in
         (t.0, t.1.0)
 
@@ -111,13 +111,13 @@ module _ (op back : ℕ → Outcome ℕ) (undo : (x w : ℕ) → op x ≡ done w
     where
       go : (o : Outcome ℕ) → op x ≡ o → (p : Outcome (List ℕ)) → each op (suc i) xs ≡ p → ((vs : List ℕ) → each op (suc i) xs ≡ done vs → each back (suc i) vs ≡ done xs)
           → each back i ws ≡ done (x ∷ xs)
-      go (stop n p) oe q qe ih =
-          let d : stop n i ≡ each op i (x ∷ xs) = rw oe refl in
+      go (Err s) oe q qe ih =
+          let d : stop s.number i ≡ each op i (x ∷ xs) = rw oe refl in
           absurd (no_stop (d ∙ e))
-      go (done w) oe (stop n p) qe ih =
-          let d : stop n p ≡ each op i (x ∷ xs) = rw (oe, qe) refl in
+      go (Ok w) oe (Err s) qe ih =
+          let d : Err s ≡ each op i (x ∷ xs) = rw (oe, qe) refl in
           absurd (no_stop (d ∙ e))
-      go (done w) oe (done vs) qe ih =
+      go (Ok w) oe (Ok vs) qe ih =
           let d : done (w ∷ vs) ≡ each op i (x ∷ xs) = rw (oe, qe) refl in
           let b : each back i (w ∷ vs) ≡ done (x ∷ xs) = rw (undo x w oe, ih vs qe) refl in
           ap (each back i) (sym (done_inj (d ∙ e))) ∙ b
@@ -132,9 +132,9 @@ module _ (way : ℕ → ℕ → ℕ → ℕ) (f : Format) (operand out : List �
   each_made {words} e = go (check_floating f) refl (eqb (length operand) (length out)) refl
     where
       go : (o : Outcome (Unit {0})) → check_floating f ≡ o → (b : Bool) → eqb (length operand) (length out) ≡ b → Stored words
-      go (stop n p) oe b be = absurd (no_stop (each_format way f operand out (sym oe) ∙ e))
-      go (done u) oe false be = absurd (no_stop (each_length way f operand out (sym oe) (eqb-false _ _ be) ∙ e))
-      go (done u) oe true be =
+      go (Err s) oe b be = absurd (no_stop (each_format way f operand out (sym oe) ∙ e))
+      go (Ok u) oe false be = absurd (no_stop (each_length way f operand out (sym oe) (eqb-false _ _ be) ∙ e))
+      go (Ok u) oe true be =
           let l : length operand ≡ length out = eqb-true _ _ be in
           record { format_good = sym oe; made = each_all way f operand out (sym oe) l ∙ e }
 

@@ -13,6 +13,8 @@ use lib.Dec.{leb, eqb}
 use lib.Arith.{digits_lt}
 use lib.Pow.{pow_pos, pow-add, split, high, low, shr-shr}
 use borrow.Author.Tests.{le-leb, lt-leb, eq-eqb, ne_eqb, eqb-true, eqb-false}
+use Rattle.std.specs.Prelude.{Ok, Err}
+use Rattle.slash.specs.declared.answer.Stop.{Stop}
 use Rattle.slash.specs.Answers.{Outcome, stop, done}
 use Rattle.slash.specs.Bits.{least_from, least_power, bits, bit}
 use Rattle.slash.specs.Formats.{is_fixed, known, k_fits, check_format, slash_bits, width_of, format_of}
@@ -247,11 +249,11 @@ module _ (f : Format) where
   floating_width n = rw (ne_eqb _ _ n) refl
 
 module _ (way : ℕ → ℕ → ℕ → ℕ) (f : Format) (w : ℕ) where
-  pub rearrange_format : {n p : ℕ} → stop n p ≡ check_floating f → stop n p ≡ rearrange way f w
+  pub rearrange_format : {s : Stop} → Err s ≡ check_floating f → Err s ≡ rearrange way f w
   unfolding rearrange
   rearrange_format e = then_stop _ e
 
-  pub rearrange_word : done tt ≡ check_floating f → {n p : ℕ} → stop n p ≡ check_word f w → stop n p ≡ rearrange way f w
+  pub rearrange_word : done tt ≡ check_floating f → {s : Stop} → Err s ≡ check_word f w → Err s ≡ rearrange way f w
   unfolding rearrange
   rearrange_word c e = then_done _ c (then_stop _ e)
 
@@ -270,9 +272,9 @@ module _ (way : ℕ → ℕ → ℕ → ℕ) (f : Format) (w : ℕ) where
   rearrange_made {v} e = go (check_floating f) refl (check_word f w) refl
     where
       go : (c : Outcome (Unit {0})) → check_floating f ≡ c → (d : Outcome (Unit {0})) → check_word f w ≡ d → Made v
-      go (stop n p) ce d de = absurd (no_stop (rearrange_format (sym ce) ∙ e))
-      go (done u) ce (stop n p) de = absurd (no_stop (rearrange_word (sym ce) (sym de) ∙ e))
-      go (done u) ce (done t) de = record { format_good = sym ce; word_good = de; made = done_inj (sym e ∙ sym (rearrange_done (sym ce) (sym de) refl)) }
+      go (Err s) ce d de = absurd (no_stop (rearrange_format (sym ce) ∙ e))
+      go (Ok u) ce (Err s) de = absurd (no_stop (rearrange_word (sym ce) (sym de) ∙ e))
+      go (Ok u) ce (Ok t) de = record { format_good = sym ce; word_good = de; made = done_inj (sym e ∙ sym (rearrange_done (sym ce) (sym de) refl)) }
 
   -- a rearranged word is checked as the word is
   pub checked_alike : Fits way → done tt ≡ check_floating f → check_word f (rearranged way f.k w) ≡ check_word f w

@@ -1,14 +1,13 @@
 // A floating word twisted, and untwisted.
 ghost use Rattle.std.specs.Prelude.{◌≡◌, ◌+◌, ◌-◌, ◌≤◌, ◌<◌, ◌^◌};
 ghost use Rattle.std.specs.Int.Bits.{bit_and};
-ghost use Rattle.slash.specs.Answers.{written_outcome, completion_outcome};
 ghost use Rattle.slash.specs.Bits.{bits};
 ghost use Rattle.slash.specs.Formats.{slash_bits};
 ghost use Rattle.twisting.specs.Twisting.{turned, twisted_field, untwisted_field, with_field, rearranged, check_floating, rearrange, twist_word, untwist_word};
 ghost use Rattle.twisting.specs.Steps.{way_of, parting_at};
 
 use crate::turning::turned_bits;
-use slash::{Completion, Format, Stop, Written};
+use slash::{Format, Stop};
 
 // The two ways between the layouts.
 #[derive(Clone, Copy)]
@@ -86,11 +85,11 @@ pub(crate) fn rearranged_word(way: Way, k: u64, ones: u64, positions: u64, w: u6
 }
 
 // Stop 1 for a fixed format, whose words have no slash position, as for an unknown one.
-pub(crate) fn check_floating(f: Format) -> Completion
-    ensures { completion_outcome result ≡ check_floating f }
+pub(crate) fn check_floating(f: Format) -> Result<(), Stop>
+    ensures { result ≡ check_floating f }
 {
     if f.kind != Format::FLOATING {
-        return Completion::Stopped(Stop::plain(Stop::FORMAT));
+        return Err(Stop::plain(Stop::FORMAT));
     }
     f.check()
 }
@@ -106,35 +105,33 @@ fn parting(positions: u64, above: u64) -> u64
 
 // The word is checked here, by tests that need no more than the masks that rearranging needs too: above
 // the field stand at most 4 * positions + 3, a sign, a mark and a slash position.
-fn rearrange_word(way: Way, f: Format, w: u64) -> Written
-    ensures { written_outcome result ≡ rearrange (way_of way) f w }
+fn rearrange_word(way: Way, f: Format, w: u64) -> Result<u64, Stop>
+    ensures { result ≡ rearrange (way_of way) f w }
 {
-    if let Completion::Stopped(s) = check_floating(f) {
-        return Written::Stopped(s);
-    }
+    check_floating(f)?;
     let ones = field_ones(f.k);
     let positions = position_ones(f.k);
     let above = w >> (f.k - 1);
     if 4 * positions + 3 < above {
-        return Written::Stopped(Stop::plain(Stop::WIDTH));
+        return Err(Stop::plain(Stop::WIDTH));
     }
     let e = parting(positions, above);
     if f.k - 2 < e {
-        return Written::Stopped(Stop::plain(Stop::SLASH));
+        return Err(Stop::plain(Stop::SLASH));
     }
-    Written::Done(with_new_field(way, f.k, ones, e, w))
+    Ok(with_new_field(way, f.k, ones, e, w))
 }
 
 // A plain word of a floating format as the twisted one.
-pub fn twist(f: Format, w: u64) -> Written
-    ensures { written_outcome result ≡ twist_word f w }
+pub fn twist(f: Format, w: u64) -> Result<u64, Stop>
+    ensures { result ≡ twist_word f w }
 {
     rearrange_word(Way::Twist, f, w)
 }
 
 // A twisted word as the plain one.
-pub fn untwist(f: Format, w: u64) -> Written
-    ensures { written_outcome result ≡ untwist_word f w }
+pub fn untwist(f: Format, w: u64) -> Result<u64, Stop>
+    ensures { result ≡ untwist_word f w }
 {
     rearrange_word(Way::Untwist, f, w)
 }

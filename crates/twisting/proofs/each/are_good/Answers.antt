@@ -3,8 +3,8 @@ use native.Mathlib.Nat.{not-suc-le-zero}
 use native.Mathlib.Omega.{arith}
 use Rattle.twisting.proofs.each.are_good.Goals as goal
 
-pub loop-i-init : goal.loop-i-init
-loop-i-init c = (omega arith, λ j l. absurd (not-suc-le-zero l))
+pub loop-w-init : goal.loop-w-init
+loop-w-init c = (omega arith, λ j l. absurd (not-suc-le-zero l))
 
 pub overflow_sub-a : goal.overflow_sub-a
 overflow_sub-a c = omega (arith, c.requires.0)
@@ -15,8 +15,8 @@ overflow_shr-a c = omega (arith, c.requires.1)
 pub raised_next-next-requires : goal.raised_next-next-requires
 raised_next-next-requires c = (c.requires.0, c.requires.1, c.requires.2)
 
-pub loop-i-preserved : goal.loop-i-preserved
-loop-i-preserved c = joined_next c.args.k c.args.operand.now _ _ _ c.loop-i.invariant c.loop-i-test.true _ c.raised_next-next.ensures
+pub loop-w-preserved : goal.loop-w-preserved
+loop-w-preserved c = joined_next c.args.k c.args.operand.now _ _ _ c.loop-w.invariant c.loop-w-test.true _ c.raised_next-next.ensures
 
 pub overflow_mul-result : goal.overflow_mul-result
 overflow_mul-result c = let fits = few c.args.k c.args.positions c.requires.1 c.requires.2 in omega (arith, fits)
@@ -25,4 +25,4 @@ pub overflow_add-result : goal.overflow_add-result
 overflow_add-result c = let fits = few c.args.k c.args.positions c.requires.1 c.requires.2 in omega (arith, fits)
 
 pub returns : goal.returns
-returns c = joined_good c.args.k _ _ _ c.args.operand.now c.requires.0 c.requires.2 _ c.loop-i.invariant c.loop-i-test.false
+returns c = joined_good c.args.k _ _ _ c.args.operand.now c.requires.0 c.requires.2 _ c.loop-w.invariant c.loop-w-test.false

@@ -1,12 +1,7 @@
 use Rattle.vectors.specs.Steps.{Storing}
 use Rattle.twisting.specs.Twisting.{rearranged}
 use Rattle.twisting.specs.Steps.{way_of}
-use lib.ListN.{length}
-use Prim.Native.Nat.{◌-◌}
 use Rattle.twisting.proofs.each.store_rearranged.Given as goal
 
 abbrev pub invariant-loop-i : goal.invariant-loop-i
 invariant-loop-i l = Storing (rearranged (way_of l.way) l.k) l.operand l.initial.out l.out l.i
-
-abbrev pub decreases-loop-i : goal.decreases-loop-i
-decreases-loop-i l = length l.operand - l.i
