@@ -7,7 +7,9 @@ use mathlib.Core.Bool.{Bool, true, false, ◌||◌}
 use Prim.Native.Nat.{ℕ}
 use Rattle.std.specs.Prelude.{if◌then◌else◌}
 use Rattle.convergents.specs.Rounding.{round}
-use Rattle.slash.specs.Answers.{Outcome, stop, done, ◌then◌, WhenDone}
+use Rattle.std.specs.Prelude.{Ok, Err}
+use Rattle.slash.specs.Answers.{Outcome, done, ◌then◌, WhenDone}
+use Rattle.slash.specs.declared.answer.Stop.{Stop}
 use Rattle.slash.specs.Formats.{known, check_format, holds}
 use Rattle.slash.specs.Numbers.{is_nan, parts_of, pair_of}
 use Rattle.slash.specs.Reading.{number_of, number_in, check_word}
@@ -42,9 +44,9 @@ module _ (f g : Format) (w : ℕ) where
   convert_good e = go (check_format f) (check_format g) refl e
     where
       go : (k l : Outcome (Unit {0})) → check_format g ≡ l → done tt ≡ (k then λ _. l then λ _. check_word f w) → (check_word f w ≡ done tt) × (known g ≡ true)
-      go (stop n p) l i h = absurd (no_stop (sym h))
-      go (done u) (stop n p) i h = absurd (no_stop (sym h))
-      go (done u) (done v) i h = (sym h, good_known g (sym i))
+      go (Err s) l i h = absurd (no_stop (sym h))
+      go (Ok u) (Err s) i h = absurd (no_stop (sym h))
+      go (Ok u) (Ok v) i h = (sym h, good_known g (sym i))
 
   check_operand : known f ≡ true → known g ≡ true → check_word f w ≡ check_convert f g w
   unfolding check_convert
@@ -55,17 +57,17 @@ module _ (f g : Format) (w : ℕ) where
 
   -- ---- the stops of `convert`
 
-  pub stop_source : {n p : ℕ} → stop n p ≡ check_format f → stop n p ≡ convert_word f g w
+  pub stop_source : {s : Stop} → Err s ≡ check_format f → Err s ≡ convert_word f g w
   unfolding check_convert
   stop_source e = checked_stop _ _ convert_checked (then_stop _ e)
 
   module _ (h : known f ≡ true) where
-    pub stop_target : {n p : ℕ} → stop n p ≡ check_format g → stop n p ≡ convert_word f g w
+    pub stop_target : {s : Stop} → Err s ≡ check_format g → Err s ≡ convert_word f g w
     unfolding check_convert
     stop_target e = checked_stop _ _ convert_checked (then_done _ (sym (format_good f h)) (then_stop _ e))
 
     module _ (i : known g ≡ true) where
-      pub stop_word : {n p : ℕ} → stop n p ≡ check_word f w → stop n p ≡ convert_word f g w
+      pub stop_word : {s : Stop} → Err s ≡ check_word f w → Err s ≡ convert_word f g w
       stop_word e = checked_stop _ _ convert_checked (e ∙ check_operand h i)
 
       -- a vector form stops as the check of its words does

@@ -1,14 +1,15 @@
 -- The vector form: its stops in their order, and that conversion stops as its words' check does. Assumes nothing.
-use mathlib.Core.Path.{◌≡◌, refl, sym, ◌∙◌}
+use mathlib.Core.Path.{◌≡◌, refl, sym, ap, ◌∙◌}
 use mathlib.Core.Bool.{true}
 use mathlib.Core.List.{List, map}
 use Prim.Native.Nat.{ℕ}
 use lib.ListN.{length}
 use borrow.Author.Tests.{eq-eqb, ne_eqb}
-use Rattle.slash.specs.Answers.{stop, done, completion_outcome}
+use Rattle.std.specs.Prelude.{Ok, Err}
+use Rattle.std.specs.Result.{result_unwrap_or}
+use Rattle.slash.specs.Answers.{Outcome, stop, done}
 use Rattle.slash.specs.Steps.{or_zero}
 use Rattle.slash.specs.declared.answer.Stop.{Stop}
-use Rattle.slash.specs.declared.answer.Completion.{Completion}
 use Rattle.slash.specs.Formats.{known, check_format}
 use Rattle.slash.specs.Reading.{check_word}
 use Rattle.slash.specs.declared.format.Format.{Format}
@@ -24,12 +25,12 @@ use Rattle.conversion.specs.Each.{convert_each, BestConverted}
 use Rattle.conversion.proofs.ConversionLaws.{convert_stop_only, convert_best}
 
 module _ (f g : Format) (operand out : List ℕ) where
-  pub convert_each_source : {n p : ℕ} → stop n p ≡ check_format f → stop n p ≡ convert_each f g operand out
+  pub convert_each_source : {s : Stop} → Err s ≡ check_format f → Err s ≡ convert_each f g operand out
   unfolding convert_each
   convert_each_source e = then_stop _ e
 
   module _ (h : known f ≡ true) where
-    pub convert_each_target : {n p : ℕ} → stop n p ≡ check_format g → stop n p ≡ convert_each f g operand out
+    pub convert_each_target : {s : Stop} → Err s ≡ check_format g → Err s ≡ convert_each f g operand out
     unfolding convert_each
     convert_each_target e = then_done _ (sym (format_good f h)) (then_stop _ e)
 
@@ -43,13 +44,22 @@ module _ (f g : Format) (operand out : List ℕ) where
       convert_each_all e = rw (format_good f h, format_good g i, eq-eqb _ _ e) refl
 
 module _ (f g : Format) (operand out : List ℕ) where
-  module _ (h : known f ≡ true) (i : known g ≡ true) (e : length operand ≡ length out) (res : Completion) (re : completion_outcome res ≡ checked_words f operand) where
-    pub convert_each_stopped : (s : Stop) → res ≡ Completion.Stopped s
-        → (stop s.number s.place ≡ stop_only (convert_each f g operand out)) × ((out ≡ vector_after (convert_each f g operand out) out) × Unit {0})
+  module _ (h : known f ≡ true) (i : known g ≡ true) (e : length operand ≡ length out) (res : Outcome (Unit {0})) (re : res ≡ checked_words f operand) where
+    pub convert_each_stopped : (s : Stop) → res ≡ Err s
+        → (Err s ≡ stop_only (convert_each f g operand out)) × ((out ≡ vector_after (convert_each f g operand out) out) × Unit {0})
     unfolding BestConverted
     convert_each_stopped = each_stopped (convert_word f g) (check_word f) (λ w. convert_stop_only f g w h i) (BestConverted f g) (convert_best f g) operand out (convert_each f g operand out) (convert_each_all f g operand out h i e) res (re ∙ sym (words_all f operand h))
 
-    pub convert_each_done : res ≡ Completion.Done → (new : List ℕ) → new ≡ map (λ x. or_zero (convert_word f g x)) operand
+    pub convert_each_done : res ≡ Ok tt → (new : List ℕ) → new ≡ map (λ x. or_zero (convert_word f g x)) operand
         → (done tt ≡ stop_only (convert_each f g operand out)) × ((new ≡ vector_after (convert_each f g operand out) out) × EachPlace (BestConverted f g) operand new)
     unfolding BestConverted
     convert_each_done = each_done (convert_word f g) (check_word f) (λ w. convert_stop_only f g w h i) (BestConverted f g) (convert_best f g) operand out (convert_each f g operand out) (convert_each_all f g operand out h i e) res (re ∙ sym (words_all f operand h))
+
+-- what is stored at a place
+pub stored_at : (f g : Format) (w : ℕ) (o : Outcome ℕ) → o ≡ convert_word f g w → (v : ℕ) → v ≡ result_unwrap_or o 0 → v ≡ or_zero (convert_word f g w)
+unfolding or_zero
+stored_at f g w o e v h = h ∙ go o ∙ ap or_zero e
+  where
+    go : (p : Outcome ℕ) → result_unwrap_or p 0 ≡ or_zero p
+    go (Ok u) = refl
+    go (Err s) = refl

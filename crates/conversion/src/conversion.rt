@@ -1,32 +1,32 @@
 // Conversion of a word into another format.
-ghost use Rattle.std.specs.Prelude.{◌≡◌};
-ghost use Rattle.slash.specs.Answers.{written_outcome, WhenDone};
+ghost use Rattle.std.specs.Prelude.{◌≡◌, true};
+ghost use Rattle.slash.specs.Answers.{WhenDone};
 ghost use Rattle.slash.specs.Best.{BestForValue};
+ghost use Rattle.slash.specs.Formats.{known};
 ghost use Rattle.slash.specs.Reading.{number_of};
 ghost use Rattle.conversion.specs.Conversion.{convert_word};
 
-use slash::{Checked, Completion, Format, Number, Written};
+use slash::{Format, Number, Stop};
+
+// w as a word of the target, where both formats are known.
+#[inline(always)]
+pub(crate) fn converted(source: Format, target: Format, w: u64) -> Result<u64, Stop>
+    requires { (known source ≡ true) × (known target ≡ true) }
+    ensures written { result ≡ convert_word source target w }
+    ensures best { WhenDone result (λ v. BestForValue target (number_of source w).value v) }
+{
+    let x = slash::check(source, w)?;
+    let value = x.value();
+    let approximate = x.is_approximate();
+    slash::write(target, Number { value, approximate })
+}
 
 // w, a word of the source format, as a word of the target's.
-pub fn convert(source: Format, target: Format, w: u64) -> Written
-    ensures written { written_outcome result ≡ convert_word source target w }
-    ensures best { WhenDone (written_outcome result) (λ v. BestForValue target (number_of source w).value v) }
+pub fn convert(source: Format, target: Format, w: u64) -> Result<u64, Stop>
+    ensures written { result ≡ convert_word source target w }
+    ensures best { WhenDone result (λ v. BestForValue target (number_of source w).value v) }
 {
-    if let Completion::Stopped(s) = source.check() {
-        return Written::Stopped(s);
-    }
-    if let Completion::Stopped(s) = target.check() {
-        return Written::Stopped(s);
-    }
-    match slash::check(source, w) {
-        Checked::Stopped(s) => Written::Stopped(s),
-        Checked::Good(x) => {
-            let v = x.value();
-            let number = Number {
-                value: v,
-                approximate: x.is_approximate(),
-            };
-            slash::write(target, number)
-        }
-    }
+    source.check()?;
+    target.check()?;
+    converted(source, target, w)
 }
