@@ -14,6 +14,8 @@ use lib.Dec.{eqb, leb, ltb}
 use lib.ListN.{length, get_or, take, drop, length-append, length-take, length-drop}
 use lib.Seq.{take-append-le, take-append_seam, take-take, split_at, take-suc, take_all, get_or-drop}
 use borrow.Author.Tests.{eq-eqb, ne_eqb, le-leb, lt-leb, le-ltb, lt-ltb, leb-true, leb-false}
+use Rattle.std.specs.Prelude.{Option, Some, None, Result, Ok, Err, IsErr, IsErrAnd}
+use Rattle.std.specs.Option.{ok_or}
 use Rattle.std.specs.Prelude.{if◌then◌else◌}
 use Rattle.breaths.specs.Breaths.{breath_of}
 use Rattle.breaths.proofs.RatioLaws.{or_parts}
@@ -23,17 +25,14 @@ use Rattle.text.proofs.PartLaws.{behind, parted_none, parted_some, parted_at}
 use Rattle.recording.specs.Lines.{digits_from, read_tick, from_start, from_ticks, from_fields, read_line}
 use Rattle.recording.specs.Steps.{LeadingDigits}
 use Rattle.breaths.specs.declared.breath.Breath.{Breath}
-use Rattle.recording.specs.declared.line.Tick.{Tick}
-use Rattle.recording.specs.declared.line.Tick.TheVariants.{Good, Wrong}
-use Rattle.recording.specs.declared.line.Line.{Line}
-use Rattle.recording.specs.declared.line.Line.TheVariants.{Read, Refused}
+use Rattle.recording.specs.declared.line.Entry.{Entry}
 
 -- ---- digits
 
 pub digits_step : (v x : ℕ) (xs : List ℕ) (t : Bool) → (is_digit x && leb (v * 10 + (x - 48)) 4294967295) ≡ t
-    → digits_from v (x ∷ xs) ≡ elim t [ true ↦ digits_from (v * 10 + (x - 48)) xs | false ↦ Wrong ]
+    → digits_from v (x ∷ xs) ≡ elim t [ true ↦ digits_from (v * 10 + (x - 48)) xs | false ↦ None ]
 unfolding digits_from
-digits_step v x xs t e = ap (λ (y : Bool). elim y as (λ z. Tick) [ true ↦ digits_from (v * 10 + (x - 48)) xs | false ↦ Wrong ]) e
+digits_step v x xs t e = ap (λ (y : Bool). elim y as (λ z. Option ℕ) [ true ↦ digits_from (v * 10 + (x - 48)) xs | false ↦ None ]) e
 
 module _ (x : ℕ) where
   digit_low : x < 48 → (t : Bool) → (is_digit x && t) ≡ false
@@ -48,7 +47,7 @@ module _ (x : ℕ) where
   unfolding is_digit
   digit_good h l t = rw (le-leb 48 x h, le-leb x 57 l) refl
 
-pub no_tick : (n : ℕ) → Wrong ≡ Good n → ⊥
+pub no_tick : (n : ℕ) → None ≡ Some n → ⊥
 no_tick n e = let z : ◌≡◌ {A = ℕ} 0 1 = cc in omega arith
 
 pub digit_bounds : (x : ℕ) (t : Bool) → (is_digit x && t) ≡ true → (48 ≤ x) × (x ≤ 57) × (t ≡ true)
@@ -63,13 +62,13 @@ digit_bounds x t e = go (leb 48 x) refl (leb x 57) refl t refl e
 
 -- one digit more, whether the number is still a tick mark or not
 digit_more : (v x : ℕ) (xs : List ℕ) → 48 ≤ x → x ≤ 57
-    → (if leb v 4294967295 then digits_from v (x ∷ xs) else Wrong)
-    ≡ (if leb (v * 10 + (x - 48)) 4294967295 then digits_from (v * 10 + (x - 48)) xs else Wrong)
+    → (if leb v 4294967295 then digits_from v (x ∷ xs) else None)
+    ≡ (if leb (v * 10 + (x - 48)) 4294967295 then digits_from (v * 10 + (x - 48)) xs else None)
 digit_more v x xs low high = go (dec_le (v * 10 + (x - 48)) 4294967295) (dec_le v 4294967295)
   where
     go : Dec (v * 10 + (x - 48) ≤ 4294967295) → Dec (v ≤ 4294967295)
-        → (if leb v 4294967295 then digits_from v (x ∷ xs) else Wrong)
-        ≡ (if leb (v * 10 + (x - 48)) 4294967295 then digits_from (v * 10 + (x - 48)) xs else Wrong)
+        → (if leb v 4294967295 then digits_from v (x ∷ xs) else None)
+        ≡ (if leb (v * 10 + (x - 48)) 4294967295 then digits_from (v * 10 + (x - 48)) xs else None)
     go (yes h) d =
         let less : v ≤ 4294967295 = omega arith in
         rw (le-leb _ _ less, le-leb _ _ h) (digits_step v x xs true (digit_good x low high _ ∙ le-leb _ _ h))
@@ -87,7 +86,7 @@ pub record Leading (bs : List ℕ) (from limit v i : ℕ) : Type 0 where
   pub place : i ≡ from + count
   pub within : i ≤ limit
   pub few : v < 10 ^ count
-  pub goes : (xs : List ℕ) → digits_from 0 (take count (drop from bs) ++ xs) ≡ (if leb v 4294967295 then digits_from v xs else Wrong)
+  pub goes : (xs : List ℕ) → digits_from 0 (take count (drop from bs) ++ xs) ≡ (if leb v 4294967295 then digits_from v xs else None)
 
 pub leading_start : (bs : List ℕ) (from limit : ℕ) → from ≤ limit → Leading bs from limit 0 from
 leading_start bs from limit h = record { count = 0; place = omega arith; within = h; few = omega arith; goes = λ xs. refl }
@@ -128,18 +127,18 @@ module _ {bs : List ℕ} {from limit v i : ℕ} (d : Leading bs from limit v i) 
             ap (λ (t : List ℕ). digits_from 0 (t ++ xs)) (take-suc rest d.count 0 short)
             ∙ ap (digits_from 0) (append_assoc (take d.count rest) (y ∷ []) xs)
             ∙ d.goes (y ∷ xs)
-            ∙ ap (λ (z : ℕ). if leb v 4294967295 then digits_from v (z ∷ xs) else Wrong) here
+            ∙ ap (λ (z : ℕ). if leb v 4294967295 then digits_from v (z ∷ xs) else None) here
             ∙ digit_more v x xs low high;
       }
 
 -- the digits alone, where their number is a tick mark
-pub leading_tick : {bs : List ℕ} {from limit v k : ℕ} (l : LeadingDigits bs from limit v k) → v ≤ 4294967295 → digits_from 0 (take l.count (drop from bs)) ≡ Good v
+pub leading_tick : {bs : List ℕ} {from limit v k : ℕ} (l : LeadingDigits bs from limit v k) → v ≤ 4294967295 → digits_from 0 (take l.count (drop from bs)) ≡ Some v
 unfolding digits_from
 leading_tick {bs} {from} {limit} {v} l h =
     ap (digits_from 0) (sym (append-nil (take l.count (drop from bs)))) ∙ l.goes [] ∙ rw (le-leb _ _ h) refl
 
 module _ {ds : List ℕ} {v k : ℕ} (l : LeadingDigits ds 0 (length ds) v k) where
-  pub digits_wrong : k < length ds → Wrong ≡ digits_from 0 ds
+  pub digits_wrong : k < length ds → None ≡ digits_from 0 ds
   digits_wrong h =
       let c : ℕ = l.count in
       let more : List ℕ = drop (suc c) ds in
@@ -149,11 +148,11 @@ module _ {ds : List ℕ} {v k : ℕ} (l : LeadingDigits ds 0 (length ds) v k) wh
       in
       sym (
       ap (digits_from 0) (split_at ds c 0 (omega arith)) ∙ l.goes (get_or ds c 0 ∷ more)
-      ∙ ap (λ (m : Tick). if leb v 4294967295 then m else Wrong) (digits_step v (get_or ds c 0) more false other)
+      ∙ ap (λ (m : Option ℕ). if leb v 4294967295 then m else None) (digits_step v (get_or ds c 0) more false other)
       ∙ same (leb v 4294967295)
       )
     where
-      same : (t : Bool) → (if t then Wrong else Wrong) ≡ Wrong
+      same : (t : Bool) → ◌≡◌ {A = Option ℕ} (if t then None else None) None
       same true = refl
       same false = refl
 
@@ -161,28 +160,28 @@ module _ {ds : List ℕ} {v k : ℕ} (l : LeadingDigits ds 0 (length ds) v k) wh
     all : take l.count ds ≡ ds
     all = take_all l.count ds (omega (arith, l.place))
 
-    pub digits_above : 4294967295 < v → Wrong ≡ digits_from 0 ds
+    pub digits_above : 4294967295 < v → None ≡ digits_from 0 ds
     digits_above o = sym (ap (digits_from 0) (sym (append-nil ds) ∙ ap (λ (t : List ℕ). t ++ []) (sym all)) ∙ l.goes [] ∙ rw (lt-leb _ _ o) refl)
 
-    pub digits_tick : v ≤ 4294967295 → Good v ≡ digits_from 0 ds
+    pub digits_tick : v ≤ 4294967295 → Some v ≡ digits_from 0 ds
     digits_tick s = sym (leading_tick l s) ∙ ap (digits_from 0) all
 
 -- ---- a tick mark
 
 module _ (f : List ℕ) where
-  pub tick_empty : length f ≡ 0 → Wrong ≡ read_tick f
+  pub tick_empty : length f ≡ 0 → None ≡ read_tick f
   unfolding read_tick
   tick_empty h = go f h
     where
-      go : (g : List ℕ) → length g ≡ 0 → Wrong ≡ read_tick g
+      go : (g : List ℕ) → length g ≡ 0 → None ≡ read_tick g
       go [] e = refl
       go (x ∷ xs) e = absurd (omega arith)
 
-  pub tick_leading : get_or f 0 0 ≡ 48 → 1 < length f → Wrong ≡ read_tick f
+  pub tick_leading : get_or f 0 0 ≡ 48 → 1 < length f → None ≡ read_tick f
   unfolding read_tick
   tick_leading e l = go f e l
     where
-      go : (g : List ℕ) → get_or g 0 0 ≡ 48 → 1 < length g → Wrong ≡ read_tick g
+      go : (g : List ℕ) → get_or g 0 0 ≡ 48 → 1 < length g → None ≡ read_tick g
       go [] z h = absurd (omega arith)
       go (x ∷ xs) z h = let p : 0 < length xs = omega arith in rw (eq-eqb x 48 z, lt-ltb 0 (length xs) p) refl
 
@@ -199,49 +198,60 @@ module _ (f : List ℕ) where
 
 -- ---- three tick marks
 
-module _ (used : ℕ) (onset peak next : Tick) where
-  pub ticks_onset : onset ≡ Wrong → Refused 11 ≡ from_ticks used onset peak next
+-- what `ok_or` and `?` hand on where there is nothing
+pub handed_on : {T A E : Type 0} {o : Option T} {e s : E} {r : Result A E} → o ≡ None → Err s ≡ ok_or o e → IsErr r × IsErrAnd r (λ (t : E). t ≡ s) → r ≡ Err e
+handed_on {T} {A} {E} {o} {e} {s} {r} oe se h = go r h
+  where
+    same : s ≡ e
+    same = let z : ◌≡◌ {A = Result T E} (Err s) (Err e) = se ∙ ap (λ (x : Option T). ok_or x e) oe in cc
+
+    go : (q : Result A E) → IsErr q × IsErrAnd q (λ (t : E). t ≡ s) → q ≡ Err e
+    go (Ok x) w = absurd w.1
+    go (Err t) w = ap Err (w.1 ∙ same)
+
+module _ (used : ℕ) (onset peak next : Option ℕ) where
+  pub ticks_onset : onset ≡ None → Err 11 ≡ from_ticks used onset peak next
   unfolding from_ticks
   ticks_onset e = rw e refl
 
-  module _ (o : ℕ) (oe : onset ≡ Good o) where
-    pub ticks_peak : peak ≡ Wrong → Refused 11 ≡ from_ticks used onset peak next
+  module _ (o : ℕ) (oe : onset ≡ Some o) where
+    pub ticks_peak : peak ≡ None → Err 11 ≡ from_ticks used onset peak next
     unfolding from_ticks
     ticks_peak e = rw (oe, e) refl
 
-    module _ (p : ℕ) (pe : peak ≡ Good p) where
-      pub ticks_next : next ≡ Wrong → Refused 11 ≡ from_ticks used onset peak next
+    module _ (p : ℕ) (pe : peak ≡ Some p) where
+      pub ticks_next : next ≡ None → Err 11 ≡ from_ticks used onset peak next
       unfolding from_ticks
       ticks_next e = rw (oe, pe, e) refl
 
-      pub ticks_read : (n : ℕ) → next ≡ Good n → (b : Breath) → b ≡ breath_of o p n
-          → Read (record { breath = b; used = used }) ≡ from_ticks used onset peak next
+      pub ticks_read : (n : ℕ) → next ≡ Some n → (b : Breath) → b ≡ breath_of o p n
+          → Ok (record { breath = b; used = used }) ≡ from_ticks used onset peak next
       unfolding from_ticks
       ticks_read n e b be = rw (oe, pe, e, be) refl
 
 -- ---- fields
 
 module _ (used : ℕ) (line : List ℕ) (i : ℕ) (ie : i ≡ length_before 9 line) where
-  pub fields_one : i ≡ length line → Refused 10 ≡ from_fields used (parted 9 line)
+  pub fields_one : i ≡ length line → Err 10 ≡ from_fields used (parted 9 line)
   unfolding from_fields
   fields_one e = rw (parted_none 9 line (sym ie ∙ e)) refl
 
   module _ (l : i < length line) (j : ℕ) (je : j ≡ length_before 9 (behind i line)) where
-    pub fields_two : j ≡ length (behind i line) → Refused 10 ≡ from_fields used (parted 9 line)
+    pub fields_two : j ≡ length (behind i line) → Err 10 ≡ from_fields used (parted 9 line)
     unfolding from_fields
     fields_two e = rw (parted_at 9 line i ie (λ e. omega arith), parted_none 9 (behind i line) (sym je ∙ e)) refl
 
     module _ (m : j < length (behind i line)) (k : ℕ) (ke : k ≡ length_before 9 (behind j (behind i line))) where
-      pub fields_four : k < length (behind j (behind i line)) → Refused 10 ≡ from_fields used (parted 9 line)
+      pub fields_four : k < length (behind j (behind i line)) → Err 10 ≡ from_fields used (parted 9 line)
       unfolding from_fields
       fields_four n =
           let last : List ℕ = behind j (behind i line) in
           let s = parted_some 9 (behind k last) in
           rw (parted_at 9 line i ie (λ e. omega arith), parted_at 9 (behind i line) j je (λ e. omega arith), parted_at 9 last k ke (λ e. omega arith), s.is) refl
 
-      pub fields_three : length (behind j (behind i line)) ≤ k → (x y z : Tick)
+      pub fields_three : length (behind j (behind i line)) ≤ k → (x y z : Option ℕ)
           → x ≡ read_tick (take i line) → y ≡ read_tick (take j (behind i line)) → z ≡ read_tick (behind j (behind i line))
-          → (r : Line) → r ≡ from_ticks used x y z → r ≡ from_fields used (parted 9 line)
+          → (r : Result Entry ℕ) → r ≡ from_ticks used x y z → r ≡ from_fields used (parted 9 line)
       unfolding from_fields
       fields_three n x y z xe ye ze r e =
           let last : List ℕ = behind j (behind i line) in
@@ -297,13 +307,13 @@ module _ {A : Type 0} (endless : A) (from : ℕ → List (List ℕ) → A) (bs :
 
 -- the answers of `read_any`
 module _ (bs : List ℕ) (k : ℕ) (ke : k ≡ length_before 10 (take 33 bs)) where
-  pub line_long : (leb (length bs) k || leb 33 k) ≡ true → Refused 9 ≡ read_line bs
+  pub line_long : (leb (length bs) k || leb 33 k) ≡ true → Err 9 ≡ read_line bs
   unfolding read_line
-  line_long h = no_line_lem (Refused 9) from_fields bs k ke h
+  line_long h = no_line_lem (Err 9) from_fields bs k ke h
 
-  pub line_read : (leb (length bs) k || leb 33 k) ≡ false → (r : Line) → r ≡ from_fields (k + 1) (parted 9 (take k bs)) → r ≡ read_line bs
+  pub line_read : (leb (length bs) k || leb 33 k) ≡ false → (r : Result Entry ℕ) → r ≡ from_fields (k + 1) (parted 9 (take k bs)) → r ≡ read_line bs
   unfolding read_line
-  line_read h r e = a_line (Refused 9) from_fields bs k ke h r e
+  line_read h r e = a_line (Err 9) from_fields bs k ke h r e
 
 -- Bytes whose first line is there: a line feed, or 33 bytes.
 abbrev pub Ready : List ℕ → Type 0
@@ -332,17 +342,17 @@ start_case P endless from bs none some = go (dec_le (length (take 33 bs)) (lengt
         subst P (start_some endless from bs l) (some (suc k) w (parted 9 (take k bs)))
 
 -- a breath's line: a stop is one of 9 to 11
-abbrev pub Sound : List ℕ → Line → Type 0
-Sound bs (Read e) = Whole bs e.used
-Sound bs (Refused stop) = (9 ≤ stop) × (stop ≤ 11)
+abbrev pub Sound : List ℕ → Result Entry ℕ → Type 0
+Sound bs (Ok e) = Whole bs e.used
+Sound bs (Err number) = (9 ≤ number) × (number ≤ 11)
 
 module _ (bs : List ℕ) (used : ℕ) (w : Whole bs used) where
-  ticks_sound : (onset peak next : Tick) → Sound bs (from_ticks used onset peak next)
+  ticks_sound : (onset peak next : Option ℕ) → Sound bs (from_ticks used onset peak next)
   unfolding from_ticks
-  ticks_sound (Good o) (Good p) (Good n) = w
-  ticks_sound Wrong p n = (omega arith, omega arith)
-  ticks_sound (Good o) Wrong n = (omega arith, omega arith)
-  ticks_sound (Good o) (Good p) Wrong = (omega arith, omega arith)
+  ticks_sound (Some o) (Some p) (Some n) = w
+  ticks_sound None p n = (omega arith, omega arith)
+  ticks_sound (Some o) None n = (omega arith, omega arith)
+  ticks_sound (Some o) (Some p) None = (omega arith, omega arith)
 
   fields_sound : (l : List (List ℕ)) → Sound bs (from_fields used l)
   unfolding from_fields
@@ -354,7 +364,7 @@ module _ (bs : List ℕ) (used : ℕ) (w : Whole bs used) where
 
 pub line_sound : (bs : List ℕ) → Sound bs (read_line bs)
 unfolding read_line
-line_sound bs = start_case (Sound bs) (Refused 9) from_fields bs (omega arith, omega arith) (λ used w fields. fields_sound bs used w fields)
+line_sound bs = start_case (Sound bs) (Err 9) from_fields bs (omega arith, omega arith) (λ used w fields. fields_sound bs used w fields)
 
 -- ---- the paper's words for stop 9, and the bytes that follow
 

@@ -10,12 +10,12 @@ use Prim.Native.Nat.{ℕ, ◌+◌, ◌≤◌, ◌<◌}
 use native.Mathlib.Omega.{arith}
 use lib.Dec.{leb}
 use lib.ListN.{length, take, drop, length-append, take-append-drop}
+use Rattle.std.specs.Prelude.{Option, Some, None, Ok, Err}
 use Rattle.slash.specs.Answers.{Outcome, stop, done}
 use Rattle.slash.specs.declared.answer.Stop.{Stop}
 use Rattle.slash.proofs.AnswerLaws.{if_case}
-use Rattle.breaths.specs.Rates.{is_rate, make_rate, rate_outcome}
+use Rattle.breaths.specs.Rates.{is_rate, make_rate}
 use Rattle.breaths.specs.declared.rate.Rate.{Rate}
-use Rattle.breaths.specs.declared.rate.RateMade.{RateMade}
 use Rattle.breaths.proofs.RateLaws.{rate_words, rate_is, rate_made, rate_not_made}
 use Rattle.text.specs.Scan.{length_before, is_digit, parted, same}
 use Rattle.text.specs.Numbers.{decimal}
@@ -23,30 +23,28 @@ use Rattle.text.proofs.ScanLaws.{before_le}
 use Rattle.text.proofs.PartLaws.{behind, parted_none, parted_some, parted_at, same_is}
 use Rattle.recording.specs.Lines.{digits_from, read_tick, from_start}
 use Rattle.recording.specs.Openings.{Start, a_rate, no_line, no_rate_line, from_rate, rate_name, from_rate_fields, read_rate, first_of}
-use Rattle.recording.specs.declared.line.Tick.{Tick}
-use Rattle.recording.specs.declared.line.Tick.TheVariants.{Good, Wrong}
 use Rattle.recording.specs.declared.opening.Opening.{Opening}
 use Rattle.recording.proofs.TickLaws.{tick_of_decimal, decimal_of_tick}
 use Rattle.recording.proofs.LineLaws.{Whole, Ready, start_case, no_line_lem, a_line, ready_line, ready_some, whole_ready}
 
 -- ---- the answers of `from_rate`
 
-module _ (used : ℕ) (tick : Tick) where
-  pub rate_wrong : tick ≡ Wrong → no_rate_line ≡ from_rate used tick
+module _ (used : ℕ) (tick : Option ℕ) where
+  pub rate_wrong : tick ≡ None → no_rate_line ≡ from_rate used tick
   unfolding from_rate
   rate_wrong e = rw e refl
 
-  module _ (ticks : ℕ) (te : tick ≡ Good ticks) (a : RateMade) (ae : rate_outcome a ≡ make_rate ticks) where
-    pub rate_good : (rate : Rate) → a ≡ RateMade.Done rate → done (a_rate (record { rate = rate; used = used })) ≡ from_rate used tick
+  module _ (ticks : ℕ) (te : tick ≡ Some ticks) where
+    pub rate_good : (rate : Rate) → make_rate ticks ≡ done rate → done (a_rate (record { rate = rate; used = used })) ≡ from_rate used tick
     unfolding from_rate
     rate_good rate d =
-        let m = rate_made ticks rate (sym (sym (ap rate_outcome d) ∙ ae)) in
+        let m = rate_made ticks rate d in
         let e : rate ≡ record { ticks = ticks } = ap (λ (n : ℕ). record { ticks = n }) m.0 in
         rw (te, m.1, e) refl
 
-    pub rate_bad : (s : Stop) → a ≡ RateMade.Stopped s → no_rate_line ≡ from_rate used tick
+    pub rate_bad : {s : Stop} → make_rate ticks ≡ Err s → no_rate_line ≡ from_rate used tick
     unfolding from_rate
-    rate_bad s d = rw (te, rate_not_made ticks (sym (sym (ap rate_outcome d) ∙ ae))) refl
+    rate_bad d = rw (te, rate_not_made ticks d) refl
 
 -- ---- the answers of `read_rate`
 
@@ -72,7 +70,7 @@ module _ (used : ℕ) (line : List ℕ) (i : ℕ) (ie : i ≡ length_before 9 li
       unfolding from_rate_fields
       rate_other e = rw (two_fields, e) refl
 
-      pub rate_named : same (take i line) rate_name ≡ true → (t : Tick) → t ≡ read_tick (behind i line) → (r : Outcome Start) → r ≡ from_rate used t
+      pub rate_named : same (take i line) rate_name ≡ true → (t : Option ℕ) → t ≡ read_tick (behind i line) → (r : Outcome Start) → r ≡ from_rate used t
           → r ≡ from_rate_fields used (parted 9 line)
       unfolding from_rate_fields
       rate_named e t te r re = re ∙ rw (two_fields, e, te) refl
@@ -108,18 +106,18 @@ module _ (bs : List ℕ) (some : length bs ≡ 0 → ⊥) (k : ℕ) (ke : k ≡ 
 -- ---- what holds of it
 
 abbrev pub Opens : List ℕ → Outcome Start → Type 0
-Opens bs (done (a_rate o)) = Whole bs o.used × (is_rate o.rate.ticks ≡ true)
-Opens bs (done no_line) = length bs ≡ 0
-Opens bs (stop number place) = ((number ≡ 9) ⊎ (number ≡ 19)) × (place ≡ 1)
+Opens bs (Ok (Some o)) = Whole bs o.used × (is_rate o.rate.ticks ≡ true)
+Opens bs (Ok None) = length bs ≡ 0
+Opens bs (Err s) = ((s.number ≡ 9) ⊎ (s.number ≡ 19)) × (s.place ≡ 1)
 
 module _ (bs : List ℕ) where
   refused_opens : Opens bs no_rate_line
   refused_opens = (inr refl, refl)
 
-  rate_opens : (used : ℕ) → Whole bs used → (t : Tick) → Opens bs (from_rate used t)
+  rate_opens : (used : ℕ) → Whole bs used → (t : Option ℕ) → Opens bs (from_rate used t)
   unfolding from_rate
-  rate_opens used w (Good ticks) = if_case (Opens bs) (is_rate ticks) _ _ (λ h. (w, h)) (λ h. refused_opens)
-  rate_opens used w Wrong = refused_opens
+  rate_opens used w (Some ticks) = if_case (Opens bs) (is_rate ticks) _ _ (λ h. (w, h)) (λ h. refused_opens)
+  rate_opens used w None = refused_opens
 
   fields_opens : (used : ℕ) → Whole bs used → (fields : List (List ℕ)) → Opens bs (from_rate_fields used fields)
   unfolding from_rate_fields
@@ -141,7 +139,7 @@ module _ (bs : List ℕ) where
   pub first_rated : (o : Opening) → first_of bs ≡ done (a_rate o) → Whole bs o.used × (is_rate o.rate.ticks ≡ true)
   first_rated o e = subst (Opens bs) e (first_follows bs)
 
-  pub first_stopped : {number place : ℕ} → first_of bs ≡ stop number place → ((number ≡ 9) ⊎ (number ≡ 19)) × (place ≡ 1)
+  pub first_stopped : {s : Stop} → first_of bs ≡ Err s → ((s.number ≡ 9) ⊎ (s.number ≡ 19)) × (s.place ≡ 1)
   first_stopped e = subst (Opens bs) e (first_follows bs)
 
 -- ---- the bytes that follow
@@ -170,15 +168,15 @@ rate_taken used n h l = rw (tick_of_decimal n (omega arith), rate_is n h l) refl
 
 -- and no other is.
 abbrev RateFields : (used : ℕ) → List (List ℕ) → Outcome Start → Type 0
-RateFields used fields (done (a_rate o)) =
+RateFields used fields (Ok (Some o)) =
     (fields ≡ rate_name ∷ decimal o.rate.ticks ∷ []) × ((1 ≤ o.rate.ticks) × (o.rate.ticks ≤ 4096)) × (o.used ≡ used)
-RateFields used fields (done no_line) = ⊥
-RateFields used fields (stop number place) = Unit {0}
+RateFields used fields (Ok None) = ⊥
+RateFields used fields (Err s) = Unit {0}
 
-tick_rate : (used : ℕ) (x y : List ℕ) → x ≡ rate_name → (t : Tick) → read_tick y ≡ t → RateFields used (x ∷ y ∷ []) (from_rate used t)
+tick_rate : (used : ℕ) (x y : List ℕ) → x ≡ rate_name → (t : Option ℕ) → read_tick y ≡ t → RateFields used (x ∷ y ∷ []) (from_rate used t)
 unfolding from_rate
-tick_rate used x y e Wrong d = tt
-tick_rate used x y e (Good n) d =
+tick_rate used x y e None d = tt
+tick_rate used x y e (Some n) d =
     if_case (RateFields used (x ∷ y ∷ [])) (is_rate n) _ _
     (λ h. (ap (λ (z : List ℕ). z ∷ y ∷ []) e ∙ ap (λ (z : List ℕ). rate_name ∷ z ∷ []) (decimal_of_tick y n d).0, rate_words n h, refl))
     (λ h. tt)

@@ -15,21 +15,18 @@ use lib.Dec.{ltb}
 use lib.ListN.{length, take, drop, length-append, length-drop, take-append-drop}
 use lib.Seq.{drop-drop}
 use borrow.Author.Tests.{lt-ltb, le-ltb}
+use Rattle.std.specs.Prelude.{Option, Some, None, Result, Ok, Err}
 use Rattle.std.specs.Prelude.{if◌then◌else◌}
 use Rattle.slash.specs.Answers.{Outcome, stop, done, ◌then◌}
 use Rattle.slash.specs.declared.answer.Stop.{Stop}
 use Rattle.breaths.specs.declared.breath.Breath.{Breath}
 use Rattle.text.proofs.PartLaws.{tail_is}
 use Rattle.recording.specs.Lines.{from_fields, read_line}
-use Rattle.recording.specs.Openings.{Start, a_rate, no_line, first_outcome, first_of}
+use Rattle.recording.specs.Openings.{Start, a_rate, no_line, first_of}
 use Rattle.recording.specs.Steps.{LineLength, next_length}
-use Rattle.recording.specs.declared.reading.Length.{Length}
-use Rattle.recording.specs.Reading.{Coming, a_breath, the_end, next_outcome, from_line, next_of, breaths_from, check_from, breaths_on, check_on, rate_in, breaths_in, recording_check, RecordingStop}
+use Rattle.recording.specs.Reading.{Coming, a_breath, the_end, from_line, next_of, breaths_from, check_from, breaths_on, check_on, rate_in, breaths_in, recording_check, RecordingStop}
 use Rattle.recording.specs.declared.line.Entry.{Entry}
 use Rattle.recording.specs.declared.opening.Opening.{Opening}
-use Rattle.recording.specs.declared.opening.First.{First}
-use Rattle.recording.specs.declared.line.Line.{Line}
-use Rattle.recording.specs.declared.reading.Next.{Next}
 use Rattle.recording.proofs.LineLaws.{Whole, Sound, Ready, line_sound, ready_line, ready_some, whole_ready}
 use Rattle.recording.proofs.OpeningLaws.{first_rated, first_stopped}
 
@@ -66,20 +63,20 @@ module _ (breath : ℕ) (bs : List ℕ) where
     pub next_line_lem : breath ≤ 65536 → from_line (suc breath) (read_line bs) ≡ next_of breath bs
     next_line_lem h = sym (next_is ∙ rw (le-ltb _ _ h) refl)
 
-    module _ (few : breath ≤ 65536) (l : Line) (le : l ≡ read_line bs) where
-      pub next_read : (entry : Entry) → l ≡ Line.Read entry → done (a_breath entry) ≡ next_of breath bs
+    module _ (few : breath ≤ 65536) (l : Result Entry ℕ) (le : l ≡ read_line bs) where
+      pub next_read : (entry : Entry) → l ≡ Ok entry → done (a_breath entry) ≡ next_of breath bs
       unfolding from_line
       next_read entry e = ap (from_line (suc breath)) (sym e ∙ le) ∙ next_line_lem few
 
-      pub next_refused : (number : ℕ) → l ≡ Line.Refused number → stop number (suc breath) ≡ next_of breath bs
+      pub next_refused : (number : ℕ) → l ≡ Err number → stop number (suc breath) ≡ next_of breath bs
       unfolding from_line
       next_refused number e = ap (from_line (suc breath)) (sym e ∙ le) ∙ next_line_lem few
 
 -- a breath that one pass finds
-pub next_quick : (breath : ℕ) → breath ≤ 65536 → (bs : List ℕ) (entry : Entry) → Line.Read entry ≡ read_line bs → done (a_breath entry) ≡ next_of breath bs
+pub next_quick : (breath : ℕ) → breath ≤ 65536 → (bs : List ℕ) (entry : Entry) → Ok entry ≡ read_line bs → done (a_breath entry) ≡ next_of breath bs
 next_quick breath few bs entry e =
     let w : Whole bs entry.used = subst (Sound bs) (sym e) (line_sound bs) in
-    next_read breath bs (λ z. omega (arith, w.ended, w.within)) few (Line.Read entry) e entry refl
+    next_read breath bs (λ z. omega (arith, w.ended, w.within)) few (Ok entry) e entry refl
 
 -- ---- what holds of it
 
@@ -98,18 +95,18 @@ breath_stop breath number place some few s = go s.0
     go (inr w) = inr (inr (w.0, omega (arith, s.1, w.1)))
 
 abbrev pub Follows : (breath : ℕ) → List ℕ → Outcome Coming → Type 0
-Follows breath bs (done (a_breath entry)) = (breath ≤ 65536) × Whole bs entry.used
-Follows breath bs (done the_end) = Unit {0}
-Follows breath bs (stop number place) = StopAt breath number place
+Follows breath bs (Ok (Some entry)) = (breath ≤ 65536) × Whole bs entry.used
+Follows breath bs (Ok None) = Unit {0}
+Follows breath bs (Err s) = StopAt breath s.number s.place
 
 module _ (breath : ℕ) (bs : List ℕ) where
   stop_follows : (number : ℕ) → BreathStop breath number → Follows breath bs (stop number (suc breath))
   stop_follows number i = (i, refl)
 
-  line_follows : breath ≤ 65536 → (l : Line) → Sound bs l → Follows breath bs (from_line (suc breath) l)
+  line_follows : breath ≤ 65536 → (l : Result Entry ℕ) → Sound bs l → Follows breath bs (from_line (suc breath) l)
   unfolding from_line
-  line_follows few (Line.Read entry) w = (few, w)
-  line_follows few (Line.Refused number) w = stop_follows number (inl (w.0, (w.1, few)))
+  line_follows few (Ok entry) w = (few, w)
+  line_follows few (Err number) w = stop_follows number (inl (w.0, (w.1, few)))
 
   pub next_follows : Follows breath bs (next_of breath bs)
   next_follows = go (ℕ_discrete (length bs) 0) (dec_lt 65536 breath)
@@ -124,14 +121,14 @@ module _ (breath : ℕ) (bs : List ℕ) where
   pub follows_breath : (entry : Entry) → next_of breath bs ≡ done (a_breath entry) → (breath ≤ 65536) × Whole bs entry.used
   follows_breath entry e = subst (Follows breath bs) e next_follows
 
-  pub follows_stop : {number place : ℕ} → next_of breath bs ≡ stop number place → StopAt breath number place
+  pub follows_stop : {s : Stop} → next_of breath bs ≡ Err s → StopAt breath s.number s.place
   follows_stop e = subst (Follows breath bs) e next_follows
 
 -- ---- the bytes that follow
 
 breath_ready : (bs more : List ℕ) → Ready bs → read_line (bs ++ more) ≡ read_line bs
 unfolding read_line
-breath_ready bs more h = ready_line (Line.Refused 9) from_fields bs more h
+breath_ready bs more h = ready_line (Err 9) from_fields bs more h
 
 -- nothing that follows bytes whose first line is there changes what comes next
 pub next_ready : (breath : ℕ) (bs more : List ℕ) → Ready bs → next_of breath (bs ++ more) ≡ next_of breath bs
@@ -154,9 +151,9 @@ next_taken breath bs entry e m h =
 
 module _ (steps breath : ℕ) (bs : List ℕ) where
   abbrev breathed : Outcome Coming → List Breath
-  breathed (done (a_breath entry)) = entry.breath ∷ breaths_from steps (suc breath) (drop entry.used bs)
-  breathed (done the_end) = []
-  breathed (stop number place) = []
+  breathed (Ok (Some entry)) = entry.breath ∷ breaths_from steps (suc breath) (drop entry.used bs)
+  breathed (Ok None) = []
+  breathed (Err s) = []
 
   breaths_step : (x : Outcome Coming) → next_of breath bs ≡ x → breaths_from (suc steps) breath bs ≡ breathed x
   unfolding breaths_from
@@ -169,12 +166,12 @@ module _ (steps breath : ℕ) (bs : List ℕ) where
   pub breaths_end : next_of breath bs ≡ done the_end → breaths_from (suc steps) breath bs ≡ []
   breaths_end e = breaths_step (done the_end) e
 
-  pub breaths_stop : {number place : ℕ} → next_of breath bs ≡ stop number place → breaths_from (suc steps) breath bs ≡ []
-  breaths_stop {number} {place} e = breaths_step (stop number place) e
+  pub breaths_stop : {s : Stop} → next_of breath bs ≡ Err s → breaths_from (suc steps) breath bs ≡ []
+  breaths_stop {s} e = breaths_step (Err s) e
 
   abbrev checked : Coming → Outcome (Unit {0})
-  checked (a_breath entry) = check_from steps (suc breath) (drop entry.used bs)
-  checked the_end = done tt
+  checked (Some entry) = check_from steps (suc breath) (drop entry.used bs)
+  checked None = done tt
 
   check_step : (x : Outcome Coming) → next_of breath bs ≡ x → check_from (suc steps) breath bs ≡ (x then checked)
   unfolding check_from
@@ -187,8 +184,8 @@ module _ (steps breath : ℕ) (bs : List ℕ) where
   pub check_end : next_of breath bs ≡ done the_end → check_from (suc steps) breath bs ≡ done tt
   check_end e = check_step (done the_end) e
 
-  pub check_stop : {number place : ℕ} → next_of breath bs ≡ stop number place → check_from (suc steps) breath bs ≡ stop number place
-  check_stop {number} {place} e = check_step (stop number place) e
+  pub check_stop : {s : Stop} → next_of breath bs ≡ Err s → check_from (suc steps) breath bs ≡ Err s
+  check_stop {s} e = check_step (Err s) e
 
 -- More steps than up to breath 65,537 change nothing.
 pub breaths_steps : (steps more breath : ℕ) (bs : List ℕ) → breath + steps ≡ 65538 → breath ≤ 65537 → breaths_from (steps + more) breath bs ≡ breaths_from steps breath bs
@@ -197,13 +194,13 @@ breaths_steps (suc steps) more breath bs e few = ap (λ (k : ℕ). breaths_from 
   where
     go : (x : Outcome Coming) → next_of breath bs ≡ x → ((rest : List ℕ) → suc breath + steps ≡ 65538 → suc breath ≤ 65537 → breaths_from (steps + more) (suc breath) rest ≡ breaths_from steps (suc breath) rest)
         → breaths_from (suc (steps + more)) breath bs ≡ breaths_from (suc steps) breath bs
-    go (done (a_breath entry)) n ih =
+    go (Ok (Some entry)) n ih =
         let w = follows_breath breath bs entry n in
         breaths_more (steps + more) breath bs entry n
         ∙ ap (λ (l : List Breath). entry.breath ∷ l) (ih (drop entry.used bs) (omega arith) (omega (arith, w.0)))
         ∙ sym (breaths_more steps breath bs entry n)
-    go (done the_end) n ih = breaths_end (steps + more) breath bs n ∙ sym (breaths_end steps breath bs n)
-    go (stop number place) n ih = breaths_stop (steps + more) breath bs n ∙ sym (breaths_stop steps breath bs n)
+    go (Ok None) n ih = breaths_end (steps + more) breath bs n ∙ sym (breaths_end steps breath bs n)
+    go (Err s) n ih = breaths_stop (steps + more) breath bs n ∙ sym (breaths_stop steps breath bs n)
 
 pub check_steps : (steps more breath : ℕ) (bs : List ℕ) → breath + steps ≡ 65538 → breath ≤ 65537 → check_from (steps + more) breath bs ≡ check_from steps breath bs
 check_steps zero more breath bs e few = absurd (omega arith)
@@ -211,19 +208,19 @@ check_steps (suc steps) more breath bs e few = ap (λ (k : ℕ). check_from k br
   where
     go : (x : Outcome Coming) → next_of breath bs ≡ x → ((rest : List ℕ) → suc breath + steps ≡ 65538 → suc breath ≤ 65537 → check_from (steps + more) (suc breath) rest ≡ check_from steps (suc breath) rest)
         → check_from (suc (steps + more)) breath bs ≡ check_from (suc steps) breath bs
-    go (done (a_breath entry)) n ih =
+    go (Ok (Some entry)) n ih =
         let w = follows_breath breath bs entry n in
         check_more (steps + more) breath bs entry n ∙ ih (drop entry.used bs) (omega arith) (omega (arith, w.0)) ∙ sym (check_more steps breath bs entry n)
-    go (done the_end) n ih = check_end (steps + more) breath bs n ∙ sym (check_end steps breath bs n)
-    go (stop number place) n ih = check_stop (steps + more) breath bs n ∙ sym (check_stop steps breath bs n)
+    go (Ok None) n ih = check_end (steps + more) breath bs n ∙ sym (check_end steps breath bs n)
+    go (Err s) n ih = check_stop (steps + more) breath bs n ∙ sym (check_stop steps breath bs n)
 
 -- ---- the whole recording, by what it opens with
 
 module _ (bs : List ℕ) where
   abbrev breaths_by : Outcome Start → List Breath
-  breaths_by (done (a_rate o)) = breaths_on 1 (drop o.used bs)
-  breaths_by (done no_line) = []
-  breaths_by (stop number place) = []
+  breaths_by (Ok (Some o)) = breaths_on 1 (drop o.used bs)
+  breaths_by (Ok None) = []
+  breaths_by (Err s) = []
 
   breaths_by_lem : (x : Outcome Start) → first_of bs ≡ x → breaths_in bs ≡ breaths_by x
   unfolding breaths_in
@@ -235,21 +232,21 @@ module _ (bs : List ℕ) where
   pub breaths_empty : first_of bs ≡ done no_line → breaths_in bs ≡ []
   breaths_empty e = breaths_by_lem (done no_line) e
 
-  pub breaths_refused : {number place : ℕ} → first_of bs ≡ stop number place → breaths_in bs ≡ []
-  breaths_refused {number} {place} e = breaths_by_lem (stop number place) e
+  pub breaths_refused : {s : Stop} → first_of bs ≡ Err s → breaths_in bs ≡ []
+  breaths_refused {s} e = breaths_by_lem (Err s) e
 
   abbrev rated_by : Outcome Start → ℕ
-  rated_by (done (a_rate o)) = o.rate.ticks
-  rated_by (done no_line) = 0
-  rated_by (stop number place) = 0
+  rated_by (Ok (Some o)) = o.rate.ticks
+  rated_by (Ok None) = 0
+  rated_by (Err s) = 0
 
   pub rate_rated : (o : Opening) → first_of bs ≡ done (a_rate o) → rate_in bs ≡ o.rate.ticks
   unfolding rate_in
   rate_rated o e = ap rated_by e
 
   abbrev checked_by : Start → Outcome (Unit {0})
-  checked_by (a_rate o) = check_on 1 (drop o.used bs)
-  checked_by no_line = done tt
+  checked_by (Some o) = check_on 1 (drop o.used bs)
+  checked_by None = done tt
 
   check_by_lem : (x : Outcome Start) → first_of bs ≡ x → recording_check bs ≡ (x then checked_by)
   unfolding recording_check
@@ -261,26 +258,17 @@ module _ (bs : List ℕ) where
   pub check_empty : first_of bs ≡ done no_line → recording_check bs ≡ done tt
   check_empty e = check_by_lem (done no_line) e
 
-  pub check_refused : {number place : ℕ} → first_of bs ≡ stop number place → recording_check bs ≡ stop number place
-  check_refused {number} {place} e = check_by_lem (stop number place) e
+  pub check_refused : {s : Stop} → first_of bs ≡ Err s → recording_check bs ≡ Err s
+  check_refused {s} e = check_by_lem (Err s) e
 
 -- the answers of `check`
-module _ (bs : List ℕ) (x : First) (xe : first_outcome x ≡ first_of bs) where
-  pub first_is : (known : First) → x ≡ known → first_of bs ≡ first_outcome known
-  first_is known d = sym (sym (ap first_outcome d) ∙ xe)
+module _ (bs : List ℕ) where
+  pub opening_within : {o : Opening} → first_of bs ≡ done (a_rate o) → o.used ≤ length bs
+  opening_within {o} e = (first_rated bs o e).0.within
 
-  pub opening_within : (o : Opening) → x ≡ First.Rate o → o.used ≤ length bs
-  opening_within o d = (first_rated bs o (first_is (First.Rate o) d)).0.within
-
-  pub checked_rated : (o : Opening) → x ≡ First.Rate o → (c : Outcome (Unit {0}))
+  pub checked_rated : (o : Opening) → first_of bs ≡ done (a_rate o) → (c : Outcome (Unit {0}))
       → c ≡ check_on 1 (take (length bs - o.used) (drop o.used bs)) → c ≡ recording_check bs
-  checked_rated o d c e = e ∙ ap (check_on 1) (tail_is o.used bs) ∙ sym (check_rated bs o (first_is (First.Rate o) d))
-
-  pub checked_end : x ≡ First.End → done tt ≡ recording_check bs
-  checked_end d = sym (check_empty bs (first_is First.End d))
-
-  pub checked_stopped : (s : Stop) → x ≡ First.Stopped s → stop s.number s.place ≡ recording_check bs
-  checked_stopped s d = sym (check_refused bs (first_is (First.Stopped s) d))
+  checked_rated o d c e = e ∙ ap (check_on 1) (tail_is o.used bs) ∙ sym (check_rated bs o d)
 
 -- A recording has at most 65,536 breaths.
 pub breaths_few : (steps breath : ℕ) (bs : List ℕ) → breath + steps ≡ 65538 → breath ≤ 65537 → breath + length (breaths_from steps breath bs) ≤ 65537
@@ -290,20 +278,20 @@ breaths_few (suc steps) breath bs e few = go (next_of breath bs) refl (breaths_f
     go : (x : Outcome Coming) → next_of breath bs ≡ x
         → ((rest : List ℕ) → suc breath + steps ≡ 65538 → suc breath ≤ 65537 → suc breath + length (breaths_from steps (suc breath) rest) ≤ 65537)
         → breath + length (breaths_from (suc steps) breath bs) ≤ 65537
-    go (done (a_breath entry)) n ih =
+    go (Ok (Some entry)) n ih =
         let w = follows_breath breath bs entry n in
         omega (arith, ap length (breaths_more steps breath bs entry n), ih (drop entry.used bs) (omega arith) (omega (arith, w.0)))
-    go (done the_end) n ih = omega (arith, ap length (breaths_end steps breath bs n))
-    go (stop number place) n ih = omega (arith, ap length (breaths_stop steps breath bs n))
+    go (Ok None) n ih = omega (arith, ap length (breaths_end steps breath bs n))
+    go (Err s) n ih = omega (arith, ap length (breaths_stop steps breath bs n))
 
 pub breaths_most : (bs : List ℕ) → length (breaths_in bs) ≤ 65536
 unfolding breaths_on
 breaths_most bs = go (first_of bs) refl
   where
     go : (x : Outcome Start) → first_of bs ≡ x → length (breaths_in bs) ≤ 65536
-    go (done (a_rate o)) e = omega (arith, ap length (breaths_rated bs o e), breaths_few 65537 1 (drop o.used bs) (omega arith) (omega arith))
-    go (done no_line) e = omega (arith, ap length (breaths_empty bs e))
-    go (stop number place) e = omega (arith, ap length (breaths_refused bs e))
+    go (Ok (Some o)) e = omega (arith, ap length (breaths_rated bs o e), breaths_few 65537 1 (drop o.used bs) (omega arith) (omega arith))
+    go (Ok None) e = omega (arith, ap length (breaths_empty bs e))
+    go (Err s) e = omega (arith, ap length (breaths_refused bs e))
 
 -- of no bytes there are no breaths
 pub breaths_none : (steps breath : ℕ) → breaths_from steps breath [] ≡ []
@@ -315,8 +303,8 @@ breaths_none (suc steps) breath = breaths_end steps breath [] (sym (next_none br
 
 -- a stop that a recording can cause
 abbrev Caused : Outcome (Unit {0}) → Type 0
-Caused (stop number place) = RecordingStop number place
-Caused (done x) = Unit {0}
+Caused (Err s) = RecordingStop s.number s.place
+Caused (Ok x) = Unit {0}
 
 stops_from : (steps breath : ℕ) (bs : List ℕ) → 1 ≤ breath → breath + steps ≤ 65538 → Caused (check_from steps breath bs)
 unfolding check_from
@@ -325,11 +313,10 @@ stops_from (suc steps) breath bs p e = go (next_of breath bs) refl (stops_from s
   where
     go : (x : Outcome Coming) → next_of breath bs ≡ x → ((rest : List ℕ) → 1 ≤ suc breath → suc breath + steps ≤ 65538 → Caused (check_from steps (suc breath) rest))
         → Caused (check_from (suc steps) breath bs)
-    go (done (a_breath entry)) n ih = subst Caused (sym (check_more steps breath bs entry n)) (ih (drop entry.used bs) (omega arith) (omega arith))
-    go (done the_end) n ih = subst Caused (sym (check_end steps breath bs n)) tt
-    go (stop number place) n ih =
-        let s : StopAt breath number place = follows_stop breath bs n in
-        let h : RecordingStop number place = breath_stop breath number place p (omega arith) s in
+    go (Ok (Some entry)) n ih = subst Caused (sym (check_more steps breath bs entry n)) (ih (drop entry.used bs) (omega arith) (omega arith))
+    go (Ok None) n ih = subst Caused (sym (check_end steps breath bs n)) tt
+    go (Err s) n ih =
+        let h : RecordingStop s.number s.place = breath_stop breath s.number s.place p (omega arith) (follows_stop breath bs n) in
         subst Caused (sym (check_stop steps breath bs n)) h
 
 -- A recording's stop is 9 or 19 at line 1, one of 9 to 11 at a breath's line, or 8 at that of breath 65,537,
@@ -338,10 +325,10 @@ unfolding check_on
 check_stops bs number place e = subst Caused e (go (first_of bs) refl)
   where
     go : (x : Outcome Start) → first_of bs ≡ x → Caused (recording_check bs)
-    go (done (a_rate o)) f = subst Caused (sym (check_rated bs o f)) (stops_from 65537 1 (drop o.used bs) (omega arith) (omega arith))
-    go (done no_line) f = subst Caused (sym (check_empty bs f)) tt
-    go (stop n p) f =
-        let h : RecordingStop n p = inl (first_stopped bs f) in
+    go (Ok (Some o)) f = subst Caused (sym (check_rated bs o f)) (stops_from 65537 1 (drop o.used bs) (omega arith) (omega arith))
+    go (Ok None) f = subst Caused (sym (check_empty bs f)) tt
+    go (Err s) f =
+        let h : RecordingStop s.number s.place = inl (first_stopped bs f) in
         subst Caused (sym (check_refused bs f)) h
 
 -- so that 12 is never one.
@@ -365,37 +352,37 @@ unfolding check_on
 reading_start bs = record { few = omega arith; within = omega arith; total = refl }
 
 -- how many bytes the next breath takes
-pub length_quick : (breath : ℕ) → breath ≤ 65536 → (bs : List ℕ) (used : ℕ) → LineLength bs used → Length.Line used ≡ next_length (next_of breath bs)
+pub length_quick : (breath : ℕ) → breath ≤ 65536 → (bs : List ℕ) (used : ℕ) → LineLength bs used → done (Some used) ≡ next_length (next_of breath bs)
 unfolding next_length
 length_quick breath few bs used s = ap next_length (next_quick breath few bs (record { breath = s.breath; used = used }) s.read)
 
-module _ (x : Next) (y : Outcome Coming) (e : next_outcome x ≡ y) where
-  pub length_breath : (entry : Entry) → x ≡ Next.Breath entry → Length.Line entry.used ≡ next_length y
+module _ {y : Outcome Coming} where
+  pub length_breath : {entry : Entry} → y ≡ done (a_breath entry) → done (Some entry.used) ≡ next_length y
   unfolding next_length
-  length_breath entry d = ap next_length (sym (ap next_outcome d) ∙ e)
+  length_breath d = ap next_length (sym d)
 
-  pub length_end : x ≡ Next.End → Length.End ≡ next_length y
+  pub length_end : y ≡ done the_end → done None ≡ next_length y
   unfolding next_length
-  length_end d = ap next_length (sym (ap next_outcome d) ∙ e)
+  length_end d = ap next_length (sym d)
 
-  pub length_stop : (s : Stop) → x ≡ Next.Stopped s → Length.Stopped s ≡ next_length y
+  pub length_stop : {s : Stop} → y ≡ Err s → Err s ≡ next_length y
   unfolding next_length
-  length_stop s d = ap next_length (sym (ap next_outcome d) ∙ e)
+  length_stop d = ap next_length (sym d)
 
 -- and what came next, from that
-abbrev Measures : Outcome Coming → Length → Type 0
-Measures x (Length.Line used) = (entry : Entry) × (x ≡ done (a_breath entry)) × (entry.used ≡ used)
-Measures x Length.End = x ≡ done the_end
-Measures x (Length.Stopped s) = x ≡ stop s.number s.place
+abbrev Measures : Outcome Coming → Outcome (Option ℕ) → Type 0
+Measures x (Ok (Some used)) = (entry : Entry) × (x ≡ done (a_breath entry)) × (entry.used ≡ used)
+Measures x (Ok None) = x ≡ done the_end
+Measures x (Err s) = x ≡ Err s
 
 measures : (x : Outcome Coming) → Measures x (next_length x)
 unfolding next_length
-measures (done (a_breath entry)) = (entry, refl, refl)
-measures (done the_end) = refl
-measures (stop number place) = refl
+measures (Ok (Some entry)) = (entry, refl, refl)
+measures (Ok None) = refl
+measures (Err s) = refl
 
-module _ {bs : List ℕ} {breath from : ℕ} (i : Reading bs breath from) (x : Length) (xe : x ≡ next_length (next_of breath (take (length bs - from) (drop from bs)))) where
-  next_here : (known : Length) → x ≡ known → Measures (next_of breath (drop from bs)) known
+module _ {bs : List ℕ} {breath from : ℕ} (i : Reading bs breath from) {x : Outcome (Option ℕ)} (xe : x ≡ next_length (next_of breath (take (length bs - from) (drop from bs)))) where
+  next_here : (known : Outcome (Option ℕ)) → x ≡ known → Measures (next_of breath (drop from bs)) known
   next_here known d =
       subst (Measures (next_of breath (drop from bs))) (sym (sym d ∙ xe ∙ ap (λ (u : List ℕ). next_length (next_of breath u)) (tail_is from bs))) (measures (next_of breath (drop from bs)))
 
@@ -405,22 +392,22 @@ module _ {bs : List ℕ} {breath from : ℕ} (i : Reading bs breath from) (x : L
       let step : 65538 - breath ≡ suc (65537 - breath) = omega (arith, i.few) in
       i.total ∙ ap (λ (n : ℕ). check_from n breath (drop from bs)) step
 
-  pub reading_end : x ≡ Length.End → done tt ≡ check_on 1 bs
-  reading_end d = sym (here ∙ check_end (65537 - breath) breath (drop from bs) (next_here Length.End d))
+  pub reading_end : x ≡ done None → done tt ≡ check_on 1 bs
+  reading_end d = sym (here ∙ check_end (65537 - breath) breath (drop from bs) (next_here (done None) d))
 
-  pub reading_stopped : (s : Stop) → x ≡ Length.Stopped s → stop s.number s.place ≡ check_on 1 bs
-  reading_stopped s d = sym (here ∙ check_stop (65537 - breath) breath (drop from bs) (next_here (Length.Stopped s) d))
+  pub reading_stopped : {s : Stop} → x ≡ Err s → Err s ≡ check_on 1 bs
+  reading_stopped {s} d = sym (here ∙ check_stop (65537 - breath) breath (drop from bs) (next_here (Err s) d))
 
-  module _ (used : ℕ) (d : x ≡ Length.Line used) where
+  module _ {used : ℕ} (d : x ≡ done (Some used)) where
     pub reading_used : (breath ≤ 65536) × (1 ≤ used) × (from + used ≤ length bs)
     reading_used =
-        let n = next_here (Length.Line used) d in
+        let n = next_here (done (Some used)) d in
         let w = follows_breath breath (drop from bs) n.0 n.1 in
         (w.0, omega (arith, w.1.ended, n.2), omega (arith, w.1.within, n.2, length-drop from bs, i.within))
 
     pub reading_again : Reading bs (breath + 1) (from + used)
     reading_again =
-        let n = next_here (Length.Line used) d in
+        let n = next_here (done (Some used)) d in
         let u = reading_used in
         let step : 65537 - breath ≡ 65538 - (breath + 1) = omega (arith, u.0) in
         record {

@@ -12,15 +12,13 @@ use lib.Dec.{leb}
 use lib.ListN.{length, get_or, take, drop, length-append, length-take, length-drop}
 use lib.Seq.{length-take-le, split_at, take_at, drop_at, drop-drop, get_or-take, get_or-drop}
 use borrow.Author.Tests.{ne_eqb}
+use Rattle.std.specs.Prelude.{Option, Some, None, Ok, Err}
 use Rattle.breaths.specs.Breaths.{breath_of}
 use Rattle.text.specs.Scan.{is_digit, in_first, parted, length_before}
 use Rattle.recording.specs.Lines.{digits_from, from_ticks, from_fields, read_line}
-use Rattle.recording.specs.Steps.{LeadingDigits, TickAt, BreathFound, DigitsEnd, TickEnd, LineLength}
+use Rattle.recording.specs.Steps.{LeadingDigits, TickAt, BreathFound, DigitsEnd, TickEnd, TickEndFound, LineLength, LineLengthFound}
 use Rattle.breaths.specs.declared.breath.Breath.{Breath}
-use Rattle.recording.specs.declared.line.Tick.TheVariants.{Good}
 use Rattle.recording.specs.declared.line.Entry.{Entry}
-use Rattle.recording.specs.declared.line.Line.TheVariants.{Read, Refused}
-use Rattle.recording.specs.declared.line.Pass.{Pass}
 use Rattle.text.proofs.ScanLaws.{before_step, before_le, before_take}
 use Rattle.text.proofs.PartLaws.{parted_step, parted_none}
 use Rattle.recording.proofs.LineLaws.{Leading, leading_start, leading_end, leading_low, leading_high, leading_next, digits_step, no_tick, digit_bounds, tick_digits, leading_tick, start_some}
@@ -65,31 +63,31 @@ module _ {bs : List ℕ} {from e : ℕ} where
 -- ---- digits hold no tab and no line feed
 
 module _ (b : ℕ) (low : b < 48) where
-  before_digits : (v : ℕ) (f : List ℕ) (t : ℕ) → digits_from v f ≡ Good t → (r : List ℕ) → length_before b (f ++ r) ≡ length f + length_before b r
+  before_digits : (v : ℕ) (f : List ℕ) (t : ℕ) → digits_from v f ≡ Some t → (r : List ℕ) → length_before b (f ++ r) ≡ length f + length_before b r
   before_digits v [] t e r = omega arith
   before_digits v (x ∷ xs) t e r = go (is_digit x && leb (v * 10 + (x - 48)) 4294967295) refl (before_digits (v * 10 + (x - 48)) xs t)
     where
       go : (s : Bool) → (is_digit x && leb (v * 10 + (x - 48)) 4294967295) ≡ s
-          → (digits_from (v * 10 + (x - 48)) xs ≡ Good t → (r : List ℕ) → length_before b (xs ++ r) ≡ length xs + length_before b r)
+          → (digits_from (v * 10 + (x - 48)) xs ≡ Some t → (r : List ℕ) → length_before b (xs ++ r) ≡ length xs + length_before b r)
           → length_before b (x ∷ (xs ++ r)) ≡ suc (length xs) + length_before b r
       go false f ih = absurd (no_tick t (sym (digits_step v x xs false f) ∙ e))
       go true f ih =
           let other : x ≡ b → ⊥ = λ z. omega (arith, (digit_bounds x _ f).0) in
           omega (arith, before_step b x (xs ++ r) false (ne_eqb x b other), ih (sym (digits_step v x xs true f) ∙ e) r)
 
-fields_digits : (v : ℕ) (f : List ℕ) (t : ℕ) → digits_from v f ≡ Good t → (r : List ℕ) → parted 9 (f ++ (9 ∷ r)) ≡ f ∷ parted 9 r
+fields_digits : (v : ℕ) (f : List ℕ) (t : ℕ) → digits_from v f ≡ Some t → (r : List ℕ) → parted 9 (f ++ (9 ∷ r)) ≡ f ∷ parted 9 r
 fields_digits v [] t e r = parted_step 9 9 r true refl
 fields_digits v (x ∷ xs) t e r = go (is_digit x && leb (v * 10 + (x - 48)) 4294967295) refl (fields_digits (v * 10 + (x - 48)) xs t)
   where
     go : (s : Bool) → (is_digit x && leb (v * 10 + (x - 48)) 4294967295) ≡ s
-        → (digits_from (v * 10 + (x - 48)) xs ≡ Good t → (r : List ℕ) → parted 9 (xs ++ (9 ∷ r)) ≡ xs ∷ parted 9 r)
+        → (digits_from (v * 10 + (x - 48)) xs ≡ Some t → (r : List ℕ) → parted 9 (xs ++ (9 ∷ r)) ≡ xs ∷ parted 9 r)
         → parted 9 (x ∷ (xs ++ (9 ∷ r))) ≡ (x ∷ xs) ∷ parted 9 r
     go false f ih = absurd (no_tick t (sym (digits_step v x xs false f) ∙ e))
     go true f ih =
         let other : x ≡ 9 → ⊥ = λ z. omega (arith, (digit_bounds x _ f).0) in
         parted_step 9 x (xs ++ (9 ∷ r)) false (ne_eqb x 9 other) ∙ ap (in_first x) (ih (sym (digits_step v x xs true f) ∙ e) r)
 
-fields_last : (f : List ℕ) (t : ℕ) → digits_from 0 f ≡ Good t → parted 9 f ≡ f ∷ []
+fields_last : (f : List ℕ) (t : ℕ) → digits_from 0 f ≡ Some t → parted 9 f ≡ f ∷ []
 fields_last f t e =
     parted_none 9 f (omega (arith, before_digits 9 (omega arith) 0 f t e [], ap (length_before 9) (append-nil f), before_le 9 []))
 
@@ -149,11 +147,11 @@ module _ {bs : List ℕ} {o p n i j k : ℕ} (x : TickAt bs 0 9 o i) (y : TickAt
       ∙ ap (λ (l : List (List ℕ)). x.field ∷ l)
       (fields_digits 0 y.field p y.digits z.field ∙ ap (λ (l : List (List ℕ)). y.field ∷ l) (fields_last z.field n z.digits))
 
-  ticks : (used : ℕ) → from_fields used (x.field ∷ y.field ∷ z.field ∷ []) ≡ Read (record { breath = breath_of o p n; used = used })
+  ticks : (used : ℕ) → from_fields used (x.field ∷ y.field ∷ z.field ∷ []) ≡ Ok (record { breath = breath_of o p n; used = used })
   unfolding from_fields from_ticks
   ticks used = rw (x.tick, y.tick, z.tick) refl
 
-  pub breath_read : (b : Breath) → b ≡ breath_of o p n → Read (record { breath = b; used = k }) ≡ read_line bs
+  pub breath_read : (b : Breath) → b ≡ breath_of o p n → Ok (record { breath = b; used = k }) ≡ read_line bs
   unfolding read_line
   breath_read b be =
       let short : k ≤ 33 = omega (arith, x.short, y.short, z.short) in
@@ -162,17 +160,17 @@ module _ {bs : List ℕ} {o p n i j k : ℕ} (x : TickAt bs 0 9 o i) (y : TickAt
       let within : length_before 10 (take 33 bs) < length (take 33 bs) = omega (arith, few, long, line_length, length-take 33 bs) in
       let taken : take (length line) bs ≡ line = ap (take (length line)) as_line ∙ take_at line (10 ∷ z.rest) (length line) refl in
       sym (
-      sym (start_some (Refused 9) from_fields bs within)
+      sym (start_some (Err 9) from_fields bs within)
       ∙ ap (λ (m : ℕ). from_fields (suc m) (parted 9 (take m bs))) few
       ∙ ap (λ (l : List ℕ). from_fields (suc (length line)) (parted 9 l)) taken
       ∙ ap (from_fields (suc (length line))) three_fields
       ∙ ticks (suc (length line))
-      ∙ ap (λ (u : ℕ). Read (record { breath = breath_of o p n; used = u })) (sym line_length)
-      ∙ ap (λ (c : Breath). Read (record { breath = c; used = k })) (sym be)
+      ∙ ap (λ (u : ℕ). Ok (record { breath = breath_of o p n; used = u })) (sym line_length)
+      ∙ ap (λ (c : Breath). Ok (record { breath = c; used = k })) (sym be)
       )
 
-pub breath_found : (bs : List ℕ) (s : Pass) → BreathFound bs s → (x : Entry) → s ≡ Pass.Breath x → Read x ≡ read_line bs
-breath_found bs s w x d = subst (BreathFound bs) d w
+pub breath_found : (bs : List ℕ) {s : Option Entry} {x : Entry} → BreathFound bs s → s ≡ Some x → Ok x ≡ read_line bs
+breath_found bs w d = subst (BreathFound bs) d w
 
 -- ---- the same without the numbers
 
@@ -205,9 +203,16 @@ tick_ends {bs} {from} {k} e long r ended some lead =
     let nine : 10 ^ l.count ≤ 10 ^ 9 = pow-le-pow_right {n = 10} (omega arith) {i = l.count} {j = 9} (omega (arith, l.place, l.within)) in
     record { ticks = r.value; tick = tick_at e long (omega arith) l ended some (omega (arith, l.few, nine)) lead }
 
-pub three_ticks : {bs : List ℕ} {i j k : ℕ} → TickEnd bs 0 9 i → TickEnd bs i 9 j → TickEnd bs j 10 k → LineLength bs k
+three_ticks : {bs : List ℕ} {i j k : ℕ} → TickEnd bs 0 9 i → TickEnd bs i 9 j → TickEnd bs j 10 k → LineLength bs k
 three_ticks x y z =
     record {
       breath = breath_of x.ticks y.ticks z.ticks;
       read = breath_read x.tick y.tick z.tick (breath_of x.ticks y.ticks z.ticks) refl;
     }
+
+pub length_found : {bs : List ℕ} {i j : ℕ} → TickEnd bs 0 9 i → TickEnd bs i 9 j → (k : Option ℕ) → TickEndFound bs j 10 k → LineLengthFound bs k
+length_found x y (Some k) z = three_ticks x y z
+length_found x y None z = tt
+
+pub length_there : (bs : List ℕ) {k : Option ℕ} {used : ℕ} → LineLengthFound bs k → k ≡ Some used → LineLength bs used
+length_there bs w d = subst (LineLengthFound bs) d w

@@ -1,34 +1,30 @@
 -- The first line of a recording: `rate`, a tab, and the rate.
-use Rattle.std.specs.Prelude.{ℕ, List, [], ◌∷◌}
+use Rattle.std.specs.Prelude.{ℕ, Option, Some, None, List, [], ◌∷◌}
 use Rattle.std.specs.Prelude.{if◌then◌else◌}
 use Rattle.slash.specs.Answers.{Outcome, stop, done}
 use Rattle.breaths.specs.Rates.{is_rate}
 use Rattle.text.specs.Scan.{same}
 use Rattle.recording.specs.Lines.{read_tick, from_start}
-use Rattle.recording.specs.declared.line.Tick.{Tick}
-use Rattle.recording.specs.declared.line.Tick.TheVariants.{Good, Wrong}
 use Rattle.recording.specs.declared.opening.Opening.{Opening}
-use Rattle.recording.specs.declared.opening.First.{First}
 
 -- What a recording opens with where nothing stops: its rate, with how many bytes the line uses; or its end.
-pub data Start : Type 0 where
-  a_rate : Opening → Start
-  no_line : Start
+abbrev pub Start : Type 0
+Start = Option Opening
 
--- The outcome that each answer stands for.
-abbrev pub first_outcome : First → Outcome Start
-first_outcome (First.Rate opening) = done (a_rate opening)
-first_outcome First.End = done no_line
-first_outcome (First.Stopped s) = stop s.number s.place
+abbrev pub a_rate : Opening → Start
+a_rate opening = Some opening
+
+abbrev pub no_line : Start
+no_line = None
 
 -- Stop 19: the first line is no rate line.
 abbrev pub no_rate_line : Outcome Start
 no_rate_line = stop 19 1
 
 -- A whole number from 1 to 4096, no leading zeros. (The reader of tick marks tells that it is a whole number, and refuses those above 4294967295.)
-unfoldable pub from_rate : (used : ℕ) → Tick → Outcome Start
-from_rate used (Good ticks) = if is_rate ticks then done (a_rate (record { rate = record { ticks = ticks }; used = used })) else no_rate_line
-from_rate used Wrong = no_rate_line
+unfoldable pub from_rate : (used : ℕ) → Option ℕ → Outcome Start
+from_rate used (Some ticks) = if is_rate ticks then done (a_rate (record { rate = record { ticks = ticks }; used = used })) else no_rate_line
+from_rate used None = no_rate_line
 
 -- The first field of a rate line.
 abbrev pub rate_name : List ℕ

@@ -1,32 +1,29 @@
 -- A recording line by line: what comes next, its rate and its breaths, and whether a line stops it.
-use Rattle.std.specs.Prelude.{ℕ, zero, suc, ◌-◌, ◌≤◌, ◌≡◌, ◌⊎◌, List, [], ◌∷◌, ltb, drop}
+use Rattle.std.specs.Prelude.{ℕ, zero, suc, ◌-◌, ◌≤◌, ◌≡◌, ◌⊎◌, Option, Some, None, Result, Ok, Err, List, [], ◌∷◌, ltb, drop}
 use Rattle.std.specs.Prelude.{if◌then◌else◌}
 use Rattle.slash.specs.Answers.{Outcome, stop, done, ◌then◌}
 use Rattle.breaths.specs.Sums.{most_breaths}
 use Rattle.breaths.specs.declared.breath.Breath.{Breath}
 use Rattle.recording.specs.Lines.{read_line}
-use Rattle.recording.specs.Openings.{a_rate, no_line, first_of}
+use Rattle.recording.specs.Openings.{first_of}
 use Rattle.recording.specs.declared.line.Entry.{Entry}
-use Rattle.recording.specs.declared.line.Line.{Line}
-use Rattle.recording.specs.declared.reading.Next.{Next}
 
 -- ---- what comes next
 
 -- What comes where nothing stops: a breath, with how many bytes its line uses; or the end.
-pub data Coming : Type 0 where
-  a_breath : Entry → Coming
-  the_end : Coming
+abbrev pub Coming : Type 0
+Coming = Option Entry
 
--- The outcome that each answer stands for.
-abbrev pub next_outcome : Next → Outcome Coming
-next_outcome (Next.Breath entry) = done (a_breath entry)
-next_outcome Next.End = done the_end
-next_outcome (Next.Stopped s) = stop s.number s.place
+abbrev pub a_breath : Entry → Coming
+a_breath entry = Some entry
+
+abbrev pub the_end : Coming
+the_end = None
 
 -- What a line comes to: a breath, or a stop at that line.
-unfoldable pub from_line : (line : ℕ) → Line → Outcome Coming
-from_line line (Line.Read entry) = done (a_breath entry)
-from_line line (Line.Refused number) = stop number line
+unfoldable pub from_line : (line : ℕ) → Result Entry ℕ → Outcome Coming
+from_line line (Ok entry) = done (a_breath entry)
+from_line line (Err number) = stop number line
 
 -- What comes next, where the next breath has this number, from the bytes not yet read. Its line is one further: the rate line comes first. Where
 -- there are no bytes, the recording ends. Stop 8: breath 65,537 begins.
@@ -41,9 +38,9 @@ unfoldable pub breaths_from : (steps breath : ℕ) → List ℕ → List Breath
 breaths_from zero breath bs = []
 breaths_from (suc steps) breath bs =
     elim (next_of breath bs) [
-      | done (a_breath entry) ↦ entry.breath ∷ breaths_from steps (suc breath) (drop entry.used bs)
-      | done the_end ↦ []
-      | stop number place ↦ []
+      | Ok (Some entry) ↦ entry.breath ∷ breaths_from steps (suc breath) (drop entry.used bs)
+      | Ok None ↦ []
+      | Err s ↦ []
     ]
 
 -- The first bad line stops, with its number and line and nothing more.
@@ -51,7 +48,7 @@ unfoldable pub check_from : (steps breath : ℕ) → List ℕ → Outcome (Unit 
 check_from zero breath bs = done tt
 check_from (suc steps) breath bs =
     next_of breath bs then λ x.
-    elim x [ a_breath entry ↦ check_from steps (suc breath) (drop entry.used bs) | the_end ↦ done tt ]
+    elim x [ Some entry ↦ check_from steps (suc breath) (drop entry.used bs) | None ↦ done tt ]
 
 -- How many lines there can be from a breath's number on: breath 65,537 ends every recording. So many steps are enough (proved: `breaths_steps`,
 -- `check_steps`).
@@ -68,17 +65,17 @@ check_on breath bs = check_from (lines_from breath) breath bs
 
 -- The rate of a recording; 0 where it has none, and so no breaths.
 unfoldable pub rate_in : List ℕ → ℕ
-rate_in bs = elim (first_of bs) [ done (a_rate opening) ↦ opening.rate.ticks | done no_line ↦ 0 | stop number place ↦ 0 ]
+rate_in bs = elim (first_of bs) [ Ok (Some opening) ↦ opening.rate.ticks | Ok None ↦ 0 | Err s ↦ 0 ]
 
 -- The breaths of a recording.
 unfoldable pub breaths_in : List ℕ → List Breath
-breaths_in bs = elim (first_of bs) [ done (a_rate opening) ↦ breaths_on 1 (drop opening.used bs) | done no_line ↦ [] | stop number place ↦ [] ]
+breaths_in bs = elim (first_of bs) [ Ok (Some opening) ↦ breaths_on 1 (drop opening.used bs) | Ok None ↦ [] | Err s ↦ [] ]
 
 -- What reading a recording through comes to.
 unfoldable pub recording_check : List ℕ → Outcome (Unit {0})
 recording_check bs =
     first_of bs then λ x.
-    elim x [ a_rate opening ↦ check_on 1 (drop opening.used bs) | no_line ↦ done tt ]
+    elim x [ Some opening ↦ check_on 1 (drop opening.used bs) | None ↦ done tt ]
 
 -- ---- which stops there are
 

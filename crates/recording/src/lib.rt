@@ -9,5 +9,5 @@ mod reading;
 mod stop;
 
 pub use line::{Entry, LONGEST_LINE};
-pub use opening::{First, Opening, first_line};
-pub use reading::{Next, check, next_breath};
+pub use opening::{Opening, first_line};
+pub use reading::{check, next_breath};

@@ -23,41 +23,35 @@ fn digits_end(bytes: &[u8], from: usize, limit: usize) -> usize
     i
 }
 
-// The place behind the tick mark from a place on and the byte `end` that ends it, or 0 where it isn't
-// found. Nine digits are no number above the largest; more are left to the reader of numbers.
-fn tick_end(bytes: &[u8], from: usize, end: u8) -> usize
+// The place behind the tick mark from a place on and the byte `end` that ends it, where it is found. Nine
+// digits are no number above the largest; more are left to the reader of numbers.
+fn tick_end(bytes: &[u8], from: usize, end: u8) -> Option<usize>
     requires { from + 11 ≤ length bytes.now }
     ensures { TickEndFound bytes.now from end result }
 {
     let k = digits_end(bytes, from, from + SURE_DIGITS);
     if bytes[k] != end {
-        return 0;
+        return None;
     }
     if k == from {
-        return 0;
+        return None;
     }
     if bytes[from] == b'0' {
         if from + 1 < k {
-            return 0;
+            return None;
         }
     }
-    k + 1
+    Some(k + 1)
 }
 
-// How many bytes the breath's line at the start of some bytes takes, or 0 where it isn't found.
-pub(crate) fn breath_length(bytes: &[u8]) -> usize
+// How many bytes the breath's line at the start of some bytes takes, where it is found.
+pub(crate) fn breath_length(bytes: &[u8]) -> Option<usize>
     ensures { LineLengthFound bytes.now result }
 {
     if bytes.len() < LONGEST_LINE {
-        return 0;
+        return None;
     }
-    let second = tick_end(bytes, 0, b'\t');
-    if second == 0 {
-        return 0;
-    }
-    let third = tick_end(bytes, second, b'\t');
-    if third == 0 {
-        return 0;
-    }
+    let second = tick_end(bytes, 0, b'\t')?;
+    let third = tick_end(bytes, second, b'\t')?;
     tick_end(bytes, third, b'\n')
 }

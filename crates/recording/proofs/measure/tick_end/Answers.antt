@@ -1,19 +1,9 @@
 use Rattle.recording.proofs.StepLaws.{tick_ends}
-use mathlib.Core.Path.{refl}
 use mathlib.Core.Logic.{inl, inr}
 use Rattle.recording.proofs.measure.tick_end.Goals as goal
 use Rattle.recording.proofs.measure.tick_end.Goals.{then-bytes-from-eq48+else-from-k, else-bytes-from-eq48}
 
-pub returns-then-bytes-k : goal.returns-then-bytes-k
-returns-then-bytes-k c = λ some. absurd (some refl)
-
-pub returns-then-k-from : goal.returns-then-k-from
-returns-then-k-from c = λ some. absurd (some refl)
-
-pub returns-then-from-k : goal.returns-then-from-k
-returns-then-from-k c = λ some. absurd (some refl)
-
 pub returns : goal.returns
-returns c = λ some.
+returns c =
     tick_ends _ c.requires c.digits_end-k.ensures c.if-bytes-k.false c.if-k-from.false
     (elim c.if-bytes-from-eq48.branch [ then-bytes-from-eq48+else-from-k w ↦ inr w.if-from-k.false | else-bytes-from-eq48 w ↦ inl w.if-bytes-from-eq48.false ])

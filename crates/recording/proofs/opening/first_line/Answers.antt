@@ -3,14 +3,15 @@ use Rattle.recording.proofs.LineLaws.{line_shorter}
 use lib.ListN.{length}
 use native.Mathlib.Omega.{arith}
 use lib.Seq.{length-take-le}
-use mathlib.Core.Path.{sym, ◌∙◌}
+use mathlib.Core.Path.{ap, sym, ◌∙◌}
+use Rattle.std.specs.Prelude.{Err}
 use Rattle.recording.proofs.opening.first_line.Goals as goal
 
 pub returns-then-bytes-eq0 : goal.returns-then-bytes-eq0
 returns-then-bytes-eq0 c = first_none _ c.if-bytes-eq0.true
 
 pub returns-then-bytes-k : goal.returns-then-bytes-k
-returns-then-bytes-k c = c.stopped.ensures ∙ first_long _ c.if-bytes-eq0.false _ c.line_length-k.ensures c.if-bytes-k.true
+returns-then-bytes-k c = ap Err c.stop_at_first.ensures ∙ first_long _ c.if-bytes-eq0.false _ c.line_length-k.ensures c.if-bytes-k.true
 
 pub overflow_add-k : goal.overflow_add-k
 overflow_add-k c = omega (arith, (line_shorter (length c.args.bytes.now) c.line_length-k.result c.if-bytes-k.false).1)
