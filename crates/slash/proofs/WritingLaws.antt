@@ -109,17 +109,12 @@ pub over_fraction : (v : Value) (p : Parts) → v ≡ Fraction p → eqb p.denom
 unfolding is_over_zero
 over_fraction v p e = rw e refl
 
-pub over_zero : (v : Value) (s : Bool) → v ≡ Zero s → false ≡ is_over_zero v
+pub over_other : (v : Value) → ((p : Parts) → v ≡ Fraction p → ⊥) → false ≡ is_over_zero v
 unfolding is_over_zero
-over_zero v s e = rw e refl
-
-pub over_infinity : (v : Value) (s : Bool) → v ≡ Infinity s → false ≡ is_over_zero v
-unfolding is_over_zero
-over_infinity v s e = rw e refl
-
-pub over_nan : (v : Value) → v ≡ NotANumber → false ≡ is_over_zero v
-unfolding is_over_zero
-over_nan v e = rw e refl
+over_other (Fraction p) n = absurd (n p refl)
+over_other (Zero s) n = refl
+over_other (Infinity s) n = refl
+over_other NotANumber n = refl
 
 pub over_some : (v : Value) (p : Parts) → v ≡ Fraction p → is_over_zero v ≡ false → 1 ≤ p.denominator
 over_some v p e h =

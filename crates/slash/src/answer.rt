@@ -34,9 +34,6 @@ impl Stop {
     pub fn plain(number: u64) -> Stop
         ensures { result ≡ record { number = number; place = 0 } }
     {
-        Stop {
-            number: number,
-            place: 0,
-        }
+        Stop { number, place: 0 }
     }
 }

@@ -45,7 +45,7 @@ pub(crate) fn flag(w: u64, from: u64) -> bool
 pub(crate) fn bit_of(b: bool) -> u64
     ensures { result ≡ bit_of b }
 {
-    if b { 1 } else { 0 }
+    u64::from(b)
 }
 
 // A word of four fields, the highest first: a sign, and x, y, z of i, j, k bits.

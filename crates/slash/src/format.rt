@@ -27,7 +27,7 @@ impl Format {
     pub fn make(kind: u64, k: u64) -> Result<Format, Stop>
         ensures { result ≡ make_format kind k }
     {
-        let f = Format { kind: kind, k: k };
+        let f = Format { kind, k };
         f.check()?;
         Ok(f)
     }

@@ -10,6 +10,7 @@ mod fields;
 mod fixed;
 mod floating;
 mod format;
+mod known;
 mod number;
 mod reading;
 mod rounding;

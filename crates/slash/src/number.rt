@@ -55,10 +55,5 @@ pub fn parts_of(v: Value) -> Parts
 pub fn is_nan(v: Value) -> bool
     ensures { result ≡ is_nan v }
 {
-    match v {
-        Value::Fraction(_) => false,
-        Value::Zero(_) => false,
-        Value::Infinity(_) => false,
-        Value::NotANumber => true,
-    }
+    matches!(v, Value::NotANumber)
 }

@@ -38,7 +38,7 @@ pub fn check(f: Format, w: u64) -> Result<GoodWord, Stop>
     if f.kind == Format::FIXED {
         return Ok(good);
     }
-    if floating::is_undefined(f.k, w) {
+    if (floating::Layout { k: f.k }).is_undefined(w) {
         return Err(Stop::plain(Stop::SLASH));
     }
     Ok(good)
@@ -56,9 +56,9 @@ impl GoodWord {
             return Value::NotANumber;
         }
         if f.kind == Format::FIXED {
-            fixed::value(f.k, w)
+            fixed::Layout { k: f.k }.value(w)
         } else {
-            floating::value(f.k, w)
+            floating::Layout { k: f.k }.value(w)
         }
     }
 
@@ -72,9 +72,9 @@ impl GoodWord {
             return false;
         }
         if f.kind == Format::FIXED {
-            fixed::is_approximate(f.k, w)
+            fixed::Layout { k: f.k }.is_approximate(w)
         } else {
-            floating::is_approximate(f.k, w)
+            floating::Layout { k: f.k }.is_approximate(w)
         }
     }
 
@@ -93,9 +93,9 @@ impl GoodWord {
             });
         }
         if f.kind == Format::FIXED {
-            Fields::Fixed(fixed::fields(f.k, w))
+            Fields::Fixed(fixed::Layout { k: f.k }.fields(w))
         } else {
-            Fields::Floating(floating::fields(f.k, w))
+            Fields::Floating(floating::Layout { k: f.k }.fields(w))
         }
     }
 }

@@ -9,6 +9,7 @@ ghost use Rattle.slash.specs.Formats.{known, holds};
 use crate::answer::Stop;
 use crate::bits::{bit_count, power};
 use crate::format::Format;
+use crate::known::Known;
 
 // The pair, 1/0 for infinity, and whether its value differs from the ratio's.
 #[derive(Clone, Copy)]
@@ -19,25 +20,25 @@ pub struct Rounded {
 }
 
 // Whether the format holds r/s, where s is at least 1.
-fn is_held(f: Format, r: u64, s: u64) -> bool
-    requires { known f ≡ true }
-    ensures { result ≡ holds f r s }
+fn is_held(f: Known, r: u64, s: u64) -> bool
+    ensures { result ≡ holds f.format r s }
 {
-    if f.kind == Format::FIXED {
+    let k = f.format.k;
+    if f.format.kind == Format::FIXED {
         // Neither has a bit above the k lowest; one test for both.
-        let most = power(f.k) - 1;
+        let most = power(k) - 1;
         (r | s) <= most
     } else {
-        bit_count(r) + bit_count(s) <= f.k
+        bit_count(r) + bit_count(s) <= k
     }
 }
 
 // The convergents grow, and none is larger than n/d in its parts: no product here overflows, and
 // the first that isn't held ends the search. It is exact just where the division ends.
-pub(crate) fn last_held(f: Format, n: u64, d: u64) -> Rounded
-    requires { (known f ≡ true) × (1 ≤ d) }
-    ensures rounded { result ≡ rounded f n d }
-    ensures best { Best (holds f) n d (pair result.numerator result.denominator) }
+pub(crate) fn last_held(f: Known, n: u64, d: u64) -> Rounded
+    requires { 1 ≤ d }
+    ensures rounded { result ≡ rounded f.format n d }
+    ensures best { Best (holds f.format) n d (pair result.numerator result.denominator) }
 {
     let mut p0: u64 = 0;
     let mut q0: u64 = 1;
@@ -80,5 +81,5 @@ pub fn round(f: Format, n: u64, d: u64) -> Result<Rounded, Stop>
     if d == 0 {
         return Err(Stop::plain(Stop::DENOMINATOR));
     }
-    Ok(last_held(f, n, d))
+    Ok(last_held(Known { format: f }, n, d))
 }

@@ -10,31 +10,32 @@ ghost use Rattle.slash.specs.Best.{BestForRatio, BestForValue};
 
 use crate::answer::Stop;
 use crate::format::Format;
+use crate::known::Known;
 use crate::number::{Number, Value, parts_of};
 use crate::rounding::last_held;
 use crate::{fixed, floating};
 
 // The canonical word of a held pair n/d in lowest terms: 0/1 for zero, 1/0 for infinity.
-pub(crate) fn pair_word(f: Format, negative: bool, approximate: bool, n: u64, d: u64) -> u64
-    requires { (known f ≡ true) × (held (holds f) (pair n d) ≡ true) }
-    ensures { result ≡ pair_word f negative approximate (pair n d) }
+fn pair_word(f: Known, negative: bool, approximate: bool, n: u64, d: u64) -> u64
+    requires { held (holds f.format) (pair n d) ≡ true }
+    ensures { result ≡ pair_word f.format negative approximate (pair n d) }
 {
-    if f.kind == Format::FIXED {
-        fixed::word(f.k, negative, approximate, n, d)
+    let k = f.format.k;
+    if f.format.kind == Format::FIXED {
+        fixed::Layout { k }.word(negative, approximate, n, d)
     } else {
-        floating::word(f.k, negative, approximate, n, d)
+        floating::Layout { k }.word(negative, approximate, n, d)
     }
 }
 
 // The one word of not-a-number.
-fn nan_word(f: Format) -> u64
-    requires { known f ≡ true }
-    ensures { result ≡ nan_word f }
+fn nan_word(f: Known) -> u64
+    ensures { result ≡ nan_word f.format }
 {
-    if f.kind == Format::FIXED {
+    if f.format.kind == Format::FIXED {
         0
     } else {
-        floating::not_a_number(f.k)
+        floating::Layout { k: f.format.k }.not_a_number()
     }
 }
 
@@ -45,7 +46,9 @@ fn parts_word(kind: u64, k: u64, negative: bool, approximate: bool, n: u64, d: u
     requires { known (format_of kind k) ≡ true }
     ensures { result ≡ parts_word (format_of kind k) negative approximate n d }
 {
-    let f = Format { kind: kind, k: k };
+    let f = Known {
+        format: Format { kind, k },
+    };
     if d == 0 {
         if n == 0 {
             return nan_word(f);
@@ -57,14 +60,14 @@ fn parts_word(kind: u64, k: u64, negative: bool, approximate: bool, n: u64, d: u
     pair_word(f, negative, marked, r.numerator, r.denominator)
 }
 
-fn value_word(f: Format, approximate: bool, v: Value) -> u64
-    requires { (known f ≡ true) × (is_over_zero v ≡ false) }
-    ensures { result ≡ word_for f approximate v }
+fn value_word(f: Known, approximate: bool, v: Value) -> u64
+    requires { is_over_zero v ≡ false }
+    ensures { result ≡ word_for f.format approximate v }
 {
     let p = parts_of(v);
     parts_word(
-        f.kind,
-        f.k,
+        f.format.kind,
+        f.format.k,
         p.negative,
         approximate,
         p.numerator,
@@ -77,9 +80,7 @@ fn is_over_zero(v: Value) -> bool
 {
     match v {
         Value::Fraction(p) => p.denominator == 0,
-        Value::Zero(_) => false,
-        Value::Infinity(_) => false,
-        Value::NotANumber => false,
+        _ => false,
     }
 }
 
@@ -93,7 +94,7 @@ pub fn write(f: Format, x: Number) -> Result<u64, Stop>
     if is_over_zero(v) {
         return Err(Stop::plain(Stop::DENOMINATOR));
     }
-    Ok(value_word(f, x.approximate, v))
+    Ok(value_word(Known { format: f }, x.approximate, v))
 }
 
 // The word of n/d, exact, rounded into a format.

@@ -1,17 +1,17 @@
 -- Storing text, and the digits of a number. Assumes nothing.
--- `chain`: one text stored behind another is both stored. `putting_end`: what the loop over a text comes to. `decimal_hundreds`, `hex_bytes`: a
+-- `chain`: one text stored behind another is both stored. `text_stored`: what copying a text comes to. `decimal_hundreds`, `hex_bytes`: a
 -- number's digits two at a time. `decimal_length`, `hexadecimal_length`: how long they are. `rest_as_it_was`: an example.
 use mathlib.Core.Path.{◌≡◌, refl, sym, ap, ◌∙◌, subst}
 use mathlib.Core.List.{List, [], ◌∷◌, ◌++◌, append_assoc}
-use Prim.Native.Nat.{ℕ, zero, suc, ◌+◌, ◌/◌, ◌%◌, ◌^◌, ◌≤◌, ◌<◌}
+use Prim.Native.Nat.{ℕ, zero, suc, ◌+◌, ◌-◌, ◌/◌, ◌%◌, ◌^◌, ◌≤◌, ◌<◌}
 use native.Mathlib.Omega.{arith}
 use native.Mathlib.Nat.{add-zero, zero-add, add-suc, suc-add, le_of_suc-le-suc, pow-suc}
 use native.Mathlib.Numerals.{add-one}
 use mathlib.Core.Bool.{Bool, true, false, ◌&&◌, and-eq-true_iff}
 use lib.Dec.{eqb, ltb}
 use native.Mathlib.Decide.{dec_lt}
-use lib.ListN.{set, length, get_or, drop, length-set, length-append}
-use lib.Seq.{sets-eq, length-sets, drop-cons, drop-length}
+use lib.ListN.{set, length, get_or, take, drop, length-append}
+use lib.Seq.{sets-eq, length-sets, drop-drop}
 use borrow.Author.Tests.{lt-ltb, le-ltb, eqb-true}
 use Rattle.text.specs.Numbers.{decimal_from, decimal, hex_digit, hexadecimal}
 use Rattle.slash.specs.Answers.{stop, done}
@@ -79,34 +79,18 @@ store_byte o k b = record { bytes = refl; next = omega arith }
 
 -- ---- a text stored byte by byte
 
-pub record Putting (o : List ℕ) (k : ℕ) (t o' : List ℕ) (i : ℕ) : Type 0 where
-  pub within : i ≤ length t
-  pub long : length o' ≡ length o
-  pub total : put o k t ≡ put o' (k + i) (drop i t)
-
-pub putting_start : (o : List ℕ) (k : ℕ) (t : List ℕ) → Putting o k t o 0
-putting_start o k t = record { within = omega arith; long = refl; total = ap (λ (j : ℕ). put o j t) (sym (add-zero k)) }
-
-module _ {o : List ℕ} {k : ℕ} {t o' : List ℕ} {i : ℕ} (p : Putting o k t o' i) where
-  pub putting_next : i < length t → Putting o k t (set o' (k + i) (get_or t i 0)) (i + 1)
-  unfolding put
-  putting_next l =
-      record {
-        within = omega arith;
-        long = length-set o' (k + i) (get_or t i 0) ∙ p.long;
-        total =
-            p.total ∙ ap (λ (u : List ℕ). put o' (k + i) u) (drop-cons t i 0 l)
-            ∙ rw (add-one i, add-suc k i) refl;
-      }
-
-  pub putting_end : length t ≤ i → Stored o k t o' (k + i)
-  unfolding put
-  putting_end l =
-      let e : i ≡ length t = omega (arith, p.within) in
-      record {
-        bytes = sym (p.total ∙ ap (λ (u : List ℕ). put o' (k + i) u) (ap (λ (j : ℕ). drop j t) e ∙ drop-length t));
-        next = omega arith;
-      }
+-- what copying a text over as many places of a list, from a place on, comes to
+pub text_stored : (o t ys : List ℕ) (at : ℕ) → Room o at t → ys ≡ t → Stored o at t (take at o ++ (ys ++ drop (at + length t - at) (drop at o))) (at + length t)
+unfolding put
+text_stored o t ys at h e =
+    let count : at + length t - at ≡ length t = omega arith in
+    record {
+      bytes =
+          ap (λ (k : ℕ). take at o ++ (ys ++ drop k (drop at o))) count ∙ ap (λ (u : List ℕ). take at o ++ (ys ++ u)) (drop-drop (length t) at o)
+          ∙ ap (λ (u : List ℕ). take at o ++ (u ++ drop (at + length t) o)) e
+          ∙ sym (append_assoc (take at o) t (drop (at + length t) o)) ∙ sym (sets-eq t o at h.room);
+      next = refl;
+    }
 
 -- ---- decimal digits
 

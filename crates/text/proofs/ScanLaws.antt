@@ -6,10 +6,15 @@ use mathlib.Core.List.{List, [], ◌∷◌, ◌++◌}
 use Prim.Native.Nat.{ℕ, zero, suc, ◌+◌, ◌≤◌, ◌<◌}
 use native.Mathlib.Omega.{arith}
 use native.Mathlib.Numerals.{add-one}
-use lib.Dec.{eqb}
+use lib.Dec.{eqb, ltb}
 use lib.ListN.{length, get_or, take, drop}
 use lib.Seq.{drop-cons, drop-length}
 use borrow.Author.Tests.{eq-eqb, ne_eqb}
+use Rattle.std.proofs.Common.{ltb-false}
+use Rattle.std.specs.Prelude.{Some, None, cond}
+use Rattle.std.specs.List.{position, position_or_len}
+use Rattle.std.specs.Option.{unwrap_or}
+use Rattle.std.proofs.lemmas.List.Recursion.{is_position_or_len}
 use Rattle.text.specs.Scan.{length_before}
 
 -- past the end nothing is left
@@ -105,3 +110,23 @@ before_append b (x ∷ xs) more l = go (eqb x b) refl (before_append b xs more)
     go false e ih =
         let s : length_before b (x ∷ xs) ≡ suc (length_before b xs) = before_step b x xs false e in
         before_step b x (xs ++ more) false e ∙ ap suc (ih (omega arith)) ∙ sym s
+
+-- how many bytes stand before b, by where the first b stands
+step_cond : (b x n : ℕ) → (t : Bool) → elim t as (λ z. ℕ) [ true ↦ 0 | false ↦ suc n ] ≡ cond t 0 (1 + n)
+step_cond b x n true = refl
+step_cond b x n false = omega arith
+
+before_first : (b : ℕ) (bs : List ℕ) → length_before b bs ≡ position_or_len (λ x. eqb x b) bs
+before_first b bs =
+    is_position_or_len (length_before b) (λ x. eqb x b) (before_nil b)
+    (λ x xs. before_step b x xs (eqb x b) refl ∙ step_cond b x (length_before b xs) (eqb x b)) bs
+
+pub before_position : (b : ℕ) (bs : List ℕ) → unwrap_or (position (λ x. eqb x b) bs) (length bs) ≡ length_before b bs
+before_position b bs = go (ltb (position_or_len (λ x. eqb x b) bs) (length bs)) refl
+  where
+    n : ℕ
+    n = position_or_len (λ x. eqb x b) bs
+
+    go : (t : Bool) → ltb n (length bs) ≡ t → unwrap_or (cond (ltb n (length bs)) (Some n) None) (length bs) ≡ length_before b bs
+    go true e = rw e (sym (before_first b bs))
+    go false e = rw e (let l : length bs ≤ n = ltb-false _ _ e in omega (arith, before_le b bs, before_first b bs))

@@ -1,20 +1,20 @@
 // Where a byte stands in a text, and texts that are the same.
-ghost use Rattle.std.specs.Prelude.{◌≡◌, ◌≤◌, length};
+ghost use Rattle.std.specs.Prelude.{◌≡◌, ◌≤◌, ◌==◌, length, position};
 ghost use Rattle.text.specs.Scan.{length_before, same};
+
+// Where the first b stands.
+fn first(bytes: &[u8], b: u8) -> Option<usize>
+    ensures { result ≡ position (λ x. x == b) bytes.now }
+{
+    bytes.iter().position(|x| *x == b)
+}
 
 // How many bytes stand before the first b.
 pub fn length_before(bytes: &[u8], b: u8) -> usize
     ensures within { result ≤ length bytes.now }
     ensures defined { result ≡ length_before b bytes.now }
 {
-    let mut i = 0;
-    while i < bytes.len() {
-        if bytes[i] == b {
-            return i;
-        }
-        i += 1;
-    }
-    i
+    first(bytes, b).unwrap_or(bytes.len())
 }
 
 // Whether two texts are the same.
@@ -26,10 +26,8 @@ pub fn is_same(a: &[u8], b: &[u8]) -> bool
     }
     // All bytes are compared, many at once: no text that is compared is long.
     let mut same = true;
-    let mut i = 0;
-    while i < a.len() {
-        same = same & (a[i] == b[i]);
-        i += 1;
+    for (i, x) in a.iter().enumerate() {
+        same = same & (*x == b[i]);
     }
     same
 }

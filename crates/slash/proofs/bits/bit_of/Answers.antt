@@ -1,8 +1,13 @@
-use Rattle.slash.proofs.BitLaws.{bit_true, bit_false}
+use Rattle.slash.specs.Bits.{bit_of}
+use mathlib.Core.Path.{◌≡◌, refl, ◌∙◌}
+use mathlib.Core.Bool.{Bool, true, false}
+use mir.Val.{bool_byte}
 use Rattle.slash.proofs.bits.bit_of.Goals as goal
 
-pub returns-then-b : goal.returns-then-b
-returns-then-b c = bit_true _ c.if-b.true
+byte : (b : Bool) → bool_byte b ≡ bit_of b
+unfolding bit_of
+byte true = refl
+byte false = refl
 
-pub returns-else-b : goal.returns-else-b
-returns-else-b c = bit_false _ c.if-b.false
+pub returns : goal.returns
+returns c = c.from.ensures ∙ byte c.args.b

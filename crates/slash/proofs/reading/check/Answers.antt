@@ -24,8 +24,8 @@ returns-then-f-eq-FIXED c =
     let known = check_known _ c.check.ensures c.in_ok-check.was in
     then_done _ (check_fixed _ _ known (above_case _ _ _ _ c.word_bits.ensures c.is_above.ensures c.if-is_above.false) c.if-f-eq-FIXED.true) refl
 
-pub is_undefined-requires : goal.is_undefined-requires
-is_undefined-requires c = known_k _ (check_known _ c.check.ensures c.in_ok-check.was)
+pub invariant_of-is_undefined : goal.invariant_of-is_undefined
+invariant_of-is_undefined c = let b = known_k _ (check_known _ c.check.ensures c.in_ok-check.was) in record { least = b.0; most = b.1 }
 
 pub returns-then-is_undefined : goal.returns-then-is_undefined
 returns-then-is_undefined c =

@@ -5,10 +5,10 @@ use native.Mathlib.Omega.{arith}
 use Rattle.slash.proofs.rounding.is_held.Goals as goal
 
 pub power-most-requires : goal.power-most-requires
-power-most-requires c = omega (arith, known_k _ c.requires)
+power-most-requires c = omega (arith, known_k _ c.args.f.is_known)
 
 pub overflow_sub-most : goal.overflow_sub-most
-overflow_sub-most c = omega (arith, c.power-most.ensures, pow_pos c.args.f.k)
+overflow_sub-most c = omega (arith, c.power-most.ensures, pow_pos c.args.f.format.k)
 
 pub overflow_add-result : goal.overflow_add-result
 overflow_add-result c =

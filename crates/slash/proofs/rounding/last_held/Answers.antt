@@ -28,15 +28,11 @@ overflow_mul-qn c = omega (arith, turn_bounds c.loop-v.invariant.inv (omega arit
 pub overflow_add-qn : goal.overflow_add-qn
 overflow_add-qn c = omega (arith, turn_bounds c.loop-v.invariant.inv (omega arith))
 
-pub is_held-requires : goal.is_held-requires
-is_held-requires c = c.requires.0
-
 pub returns-then-not-is_held : goal.returns-then-not-is_held
 returns-then-not-is_held c =
-    let both = (let pre = c.requires in
-    rounds_is _ _ _ _ _ _
-    (going_stop c.loop-v.invariant (format_limit _ pre.0) pre.1 (omega arith)
-    (sym c.is_held.ensures ∙ c.if-not-is_held.true))) in
+    let both = rounds_is _ _ _ _ _ _
+    (going_stop c.loop-v.invariant (format_limit _ c.args.f.is_known) c.requires (omega arith)
+    (sym c.is_held.ensures ∙ c.if-not-is_held.true)) in
     record { rounded = both.0; best = both.1 }
 
 pub loop-v-smaller : goal.loop-v-smaller
@@ -49,6 +45,5 @@ loop-v-preserved c =
 
 pub returns : goal.returns
 returns c =
-    let both = (let pre = c.requires in
-    rounds_is _ _ _ _ _ _ (going_end c.loop-v.invariant (format_limit _ pre.0) pre.1 (omega arith))) in
+    let both = rounds_is _ _ _ _ _ _ (going_end c.loop-v.invariant (format_limit _ c.args.f.is_known) c.requires (omega arith)) in
     record { rounded = both.0; best = both.1 }

@@ -12,8 +12,11 @@ pub returns-then-d-eq0 : goal.returns-then-d-eq0
 returns-then-d-eq0 c =
     record { rounded = plain_stop _ 6 c.plain.ensures (ratio_zero _ _ _ (check_known _ c.check.ensures c.in_ok-check.was) c.if-d-eq0.true); best = tt }
 
+pub invariant_of-last_held : goal.invariant_of-last_held
+invariant_of-last_held c = record { is_known = check_known _ c.check.ensures c.in_ok-check.was }
+
 pub last_held-requires : goal.last_held-requires
-last_held-requires c = (check_known _ c.check.ensures c.in_ok-check.was, omega arith)
+last_held-requires c = omega arith
 
 pub returns : goal.returns
 returns c =

@@ -3,8 +3,8 @@ use mathlib.Core.Path.{◌∙◌}
 use Rattle.slash.proofs.FormatLaws.{known_k}
 use Rattle.slash.proofs.writing.nan_word.Goals as goal
 
-pub not_a_number-requires : goal.not_a_number-requires
-not_a_number-requires c = known_k _ c.requires
+pub invariant_of-not_a_number : goal.invariant_of-not_a_number
+invariant_of-not_a_number c = let b = known_k _ c.args.f.is_known in record { least = b.0; most = b.1 }
 
 pub returns-then-f-eq-FIXED : goal.returns-then-f-eq-FIXED
 returns-then-f-eq-FIXED c = nan_fixed _ c.if-f-eq-FIXED.true

@@ -7,5 +7,5 @@ use Rattle.slash.proofs.writing.value_word.Goals as goal
 pub returns : goal.returns
 returns c = let a = c.args in
     c.parts_word.ensures
-    ∙ ap (λ (p : Parts). parts_word a.f p.negative a.approximate p.numerator p.denominator) c.parts_of-p.ensures
-    ∙ parts_value a.f a.approximate a.v c.requires.0 c.requires.1
+    ∙ ap (λ (p : Parts). parts_word a.f.format p.negative a.approximate p.numerator p.denominator) c.parts_of-p.ensures
+    ∙ parts_value a.f.format a.approximate a.v a.f.is_known c.requires

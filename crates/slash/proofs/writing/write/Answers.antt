@@ -13,7 +13,10 @@ returns-then-is_over_zero c =
     record { written = plain_stop _ 6 c.plain.ensures (write_over_zero _ _ known (sym c.is_over_zero.ensures ∙ c.if-is_over_zero.true)); best = tt }
 
 pub value_word-requires : goal.value_word-requires
-value_word-requires c = (check_known _ c.check.ensures c.in_ok-check.was, sym c.is_over_zero.ensures ∙ c.if-is_over_zero.false)
+value_word-requires c = sym c.is_over_zero.ensures ∙ c.if-is_over_zero.false
+
+pub invariant_of-value_word : goal.invariant_of-value_word
+invariant_of-value_word c = record { is_known = check_known _ c.check.ensures c.in_ok-check.was }
 
 pub returns : goal.returns
 returns c =

@@ -7,11 +7,11 @@ use Rattle.slash.proofs.reading.GoodWord.fields.Goals as goal
 pub returns-then-not-k_fits : goal.returns-then-not-k_fits
 returns-then-not-k_fits c = fields_unfit _ _ (sym c.k_fits.ensures ∙ c.if-not-k_fits.true)
 
-pub fields-requires : goal.fields-requires
-fields-requires c = fixed_fit _ (sym c.k_fits.ensures ∙ c.if-not-k_fits.false) c.if-f-eq-FIXED.true
+pub invariant_of-fields : goal.invariant_of-fields
+invariant_of-fields c = record { most = fixed_fit _ (sym c.k_fits.ensures ∙ c.if-not-k_fits.false) c.if-f-eq-FIXED.true }
 
-pub fields-requires-else-f-eq-FIXED : goal.fields-requires-else-f-eq-FIXED
-fields-requires-else-f-eq-FIXED c = fit_k _ (sym c.k_fits.ensures ∙ c.if-not-k_fits.false)
+pub invariant_of-fields-else-f-eq-FIXED : goal.invariant_of-fields-else-f-eq-FIXED
+invariant_of-fields-else-f-eq-FIXED c = let b = fit_k _ (sym c.k_fits.ensures ∙ c.if-not-k_fits.false) in record { least = b.0; most = b.1 }
 
 pub returns-then-f-eq-FIXED : goal.returns-then-f-eq-FIXED
 returns-then-f-eq-FIXED c = ap Fixed c.fields.ensures ∙ fields_fixed _ _ (sym c.k_fits.ensures ∙ c.if-not-k_fits.false) c.if-f-eq-FIXED.true

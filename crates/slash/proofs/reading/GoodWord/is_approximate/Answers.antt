@@ -7,11 +7,11 @@ use Rattle.slash.proofs.reading.GoodWord.is_approximate.Goals as goal
 pub returns-then-not-k_fits : goal.returns-then-not-k_fits
 returns-then-not-k_fits c = ap (λ (x : Number). x.approximate) (number_unfit _ _ (sym c.k_fits.ensures ∙ c.if-not-k_fits.true))
 
-pub is_approximate-requires : goal.is_approximate-requires
-is_approximate-requires c = fixed_fit _ (sym c.k_fits.ensures ∙ c.if-not-k_fits.false) c.if-f-eq-FIXED.true
+pub invariant_of-is_approximate : goal.invariant_of-is_approximate
+invariant_of-is_approximate c = record { most = fixed_fit _ (sym c.k_fits.ensures ∙ c.if-not-k_fits.false) c.if-f-eq-FIXED.true }
 
-pub is_approximate-requires-else-f-eq-FIXED : goal.is_approximate-requires-else-f-eq-FIXED
-is_approximate-requires-else-f-eq-FIXED c = fit_k _ (sym c.k_fits.ensures ∙ c.if-not-k_fits.false)
+pub invariant_of-is_approximate-else-f-eq-FIXED : goal.invariant_of-is_approximate-else-f-eq-FIXED
+invariant_of-is_approximate-else-f-eq-FIXED c = let b = fit_k _ (sym c.k_fits.ensures ∙ c.if-not-k_fits.false) in record { least = b.0; most = b.1 }
 
 pub returns-then-f-eq-FIXED : goal.returns-then-f-eq-FIXED
 returns-then-f-eq-FIXED c = c.is_approximate.ensures ∙ ap (λ (x : Number). x.approximate) (fixed_fits _ _ (sym c.k_fits.ensures ∙ c.if-not-k_fits.false) c.if-f-eq-FIXED.true)

@@ -7,11 +7,11 @@ use Rattle.slash.proofs.reading.GoodWord.value.Goals as goal
 pub returns-then-not-k_fits : goal.returns-then-not-k_fits
 returns-then-not-k_fits c = ap (λ (x : Number). x.value) (number_unfit _ _ (sym c.k_fits.ensures ∙ c.if-not-k_fits.true))
 
-pub value-requires : goal.value-requires
-value-requires c = fixed_fit _ (sym c.k_fits.ensures ∙ c.if-not-k_fits.false) c.if-f-eq-FIXED.true
+pub invariant_of-value : goal.invariant_of-value
+invariant_of-value c = record { most = fixed_fit _ (sym c.k_fits.ensures ∙ c.if-not-k_fits.false) c.if-f-eq-FIXED.true }
 
-pub value-requires-else-f-eq-FIXED : goal.value-requires-else-f-eq-FIXED
-value-requires-else-f-eq-FIXED c = fit_k _ (sym c.k_fits.ensures ∙ c.if-not-k_fits.false)
+pub invariant_of-value-else-f-eq-FIXED : goal.invariant_of-value-else-f-eq-FIXED
+invariant_of-value-else-f-eq-FIXED c = let b = fit_k _ (sym c.k_fits.ensures ∙ c.if-not-k_fits.false) in record { least = b.0; most = b.1 }
 
 pub returns-then-f-eq-FIXED : goal.returns-then-f-eq-FIXED
 returns-then-f-eq-FIXED c = c.value.ensures ∙ ap (λ (x : Number). x.value) (fixed_fits _ _ (sym c.k_fits.ensures ∙ c.if-not-k_fits.false) c.if-f-eq-FIXED.true)

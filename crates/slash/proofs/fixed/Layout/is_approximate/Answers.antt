@@ -1,5 +1,5 @@
 use Rattle.slash.specs.Reading.{fixed_number}
-use Rattle.slash.proofs.fixed.is_approximate.Goals as goal
+use Rattle.slash.proofs.fixed.Layout.is_approximate.Goals as goal
 
 pub returns : goal.returns
 unfolding fixed_number

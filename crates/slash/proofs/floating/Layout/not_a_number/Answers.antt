@@ -5,14 +5,13 @@ use lib.Pow.{pow_mono}
 use Prim.Native.Nat.{ℕ, ◌-◌}
 use mathlib.Core.Path.{ap, ◌∙◌}
 use native.Mathlib.Omega.{arith}
-use Rattle.slash.proofs.floating.not_a_number.Goals as goal
+use Rattle.slash.proofs.floating.Layout.not_a_number.Goals as goal
 
 pub from_fields-requires : goal.from_fields-requires
 from_fields-requires c =
-    let pre = c.requires in
-    let i : 1 ≤ c.args.k - 1 = omega arith in
-    (pre.0, pre.1, omega arith, omega arith, special_lt _ _ c.special_position.ensures, omega (arith, pow_mono i))
+    let i : 1 ≤ c.args.self.k - 1 = omega (arith, c.args.self.least) in
+    (omega arith, omega arith, special_lt _ _ c.special_position.ensures, omega (arith, pow_mono i))
 
 pub returns : goal.returns
 unfolding floating_nan
-returns c = c.from_fields.ensures ∙ ap (λ (e : ℕ). floating_word c.args.k 0 0 e 1) c.special_position.ensures
+returns c = c.from_fields.ensures ∙ ap (λ (e : ℕ). floating_word c.args.self.k 0 0 e 1) c.special_position.ensures
