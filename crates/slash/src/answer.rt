@@ -1,7 +1,8 @@
 // How every call of the library answers.
 ghost use Rattle.std.specs.Prelude.{◌≡◌};
 
-// A stop: its number, and its place (an index from 0, a line from 1, else 0).
+// A stop: its number, and its place (an index from 0, a line from 1, else 0). The number isn't an enum:
+// `plain` takes any, `text::refused_line` prints any, and C gets it as it is.
 #[derive(Clone, Copy)]
 pub struct Stop {
     pub number: u64,

@@ -6,7 +6,8 @@ use crate::answer::Stop;
 use crate::bits::{bit_count, power};
 
 // The kind is FIXED or FLOATING. A format that a caller made by hand may be of no such kind, or
-// have no such k: each function that takes one sees to that itself.
+// have no such k: each function that takes one sees to that itself, with stop 1, so that the kind is a
+// number and no enum.
 #[derive(Clone, Copy)]
 pub struct Format {
     pub kind: u64,

@@ -1,6 +1,5 @@
 // Slash arithmetic: formats, words, rounding. Every public function takes whatever comes, and those
-// that can stop answer in one way: Done with what they make, or Stopped with the stop's number and
-// place.
+// that can stop answer in one way: Ok with what they make, or Err with the stop's number and place.
 
 #![tactic(auto)]
 

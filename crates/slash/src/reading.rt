@@ -9,8 +9,8 @@ use crate::number::{Number, Value};
 use crate::{fixed, floating};
 
 // A word that `check` found good, with its format. The fields are private, so that only `check` makes
-// one; but the language doesn't let a type say what holds of its fields, so that each method covers
-// a k out of bounds, which never comes.
+// one. Each method covers a k out of bounds, which never comes: a ghost field would say so, but the
+// definition `checked_word` makes such words too, and would have to prove it where a buyer reads.
 #[derive(Clone, Copy)]
 pub struct GoodWord {
     format: Format,

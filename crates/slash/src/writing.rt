@@ -40,8 +40,8 @@ fn nan_word(f: Known) -> u64
 }
 
 // The word of some parts: n/d is rounded into the format, and marked if it was or rounding changed
-// its value; n/0 is infinity, 0/0 not-a-number. All of them go by this one way, in numbers that stay
-// in registers.
+// its value; n/0 is infinity, 0/0 not-a-number. All of them go by this one way, in plain numbers and not
+// in structs, since these stay in registers.
 fn parts_word(kind: u64, k: u64, negative: bool, approximate: bool, n: u64, d: u64) -> u64
     requires { known (format_of kind k) ≡ true }
     ensures { result ≡ parts_word (format_of kind k) negative approximate n d }

@@ -1,5 +1,6 @@
 // Bytes and numbers stored as text into a lent list: each function answers the place behind what it
-// stored.
+// stored. The list and the place stay two parameters: a struct that lends the list would have to be named
+// twice in each clause, before and after, where now only the place changes.
 ghost use Rattle.std.specs.Prelude.{◌≡◌, [], ◌∷◌, ◌+◌, ◌<◌};
 ghost use Rattle.text.specs.Numbers.{decimal, hexadecimal, hex_digit};
 ghost use Rattle.text.specs.Steps.{Room, two_digits};
