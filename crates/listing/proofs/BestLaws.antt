@@ -6,7 +6,9 @@ use Prim.Native.Nat.{ℕ, zero, suc, ◌+◌, ◌-◌, ◌≤◌}
 use native.Mathlib.Omega.{arith}
 use lib.ListN.{length, take, drop}
 use lib.Seq.{take-add, drop_at, length-take-le}
-use Rattle.slash.specs.Answers.{stop, done}
+use Rattle.std.specs.Prelude.{Err}
+use Rattle.slash.specs.Answers.{done}
+use Rattle.slash.specs.declared.answer.Stop.{Stop}
 use Rattle.breaths.specs.Sums.{no_sums}
 use Rattle.breaths.specs.declared.breath.Breath.{Breath}
 use Rattle.breaths.specs.declared.rate.Rate.{Rate}
@@ -110,9 +112,9 @@ closed_text : (s : Sums) → all_line s ≡ end_text s (done true)
 unfolding end_text
 closed_text s = refl
 
-refused_text : (s : Sums) (number place : ℕ) → [] ≡ end_text s (stop number place)
+refused_text : (sums : Sums) (s : Stop) → [] ≡ end_text sums (Err s)
 unfolding end_text
-refused_text s number place = refl
+refused_text sums s = refl
 
 listed : (steps : ℕ) (night : RatedNight) (bs : List ℕ) (last : Bool) (room : ℕ) → ListsUsed steps night bs (piece_from steps night bs last room)
 unfolding piece_from
@@ -123,7 +125,7 @@ listed (suc steps) night bs last room =
     (λ t entry n. further_lists entry n
     (listed steps (with_line night entry.breath) (drop entry.used bs) last (room - length (breath_line night.rate.ticks night.breath entry.breath))))
     (λ t n. used_ends_here (suc steps) night bs (all_line night.sums) Closed (closed_text night.sums))
-    (λ t number place n. used_ends_here (suc steps) night bs [] _ (refused_text night.sums number place))
+    (λ t s n. used_ends_here (suc steps) night bs [] _ (refused_text night.sums s))
   where
     further_lists : (entry : Entry) → next_of night.breath bs ≡ done (a_breath entry)
         → ListsUsed steps (with_line night entry.breath) (drop entry.used bs)
@@ -193,8 +195,8 @@ best_piece Begun bs last room =
     (λ t. best_unread bs [] Open (open_text no_sums))
     (λ t o e. best_after_rate bs o e _ (listed 65537 (rated o.rate) (drop o.used bs) last room))
     (λ t e. best_unread bs (all_line no_sums) Closed (closed_text no_sums))
-    (λ t number place e. best_unread bs [] _ (refused_text no_sums number place))
+    (λ t s e. best_unread bs [] _ (refused_text no_sums s))
 best_piece (Rated night) bs last room =
     rated_case (BestPiece (Rated night) bs) night bs last room
     (λ e. best_rated night bs _ (listed (65538 - night.breath) night bs last room))
-    (best_rated night bs _ (used_ends_here (65538 - night.breath) night bs [] NoNight (refused_text night.sums _ _)))
+    (best_rated night bs _ (used_ends_here (65538 - night.breath) night bs [] NoNight (refused_text night.sums _)))

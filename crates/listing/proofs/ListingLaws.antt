@@ -9,7 +9,9 @@ use Prim.Native.Nat.{ℕ, zero, suc, ◌+◌, ◌*◌, ◌^◌, ◌≤◌, ◌<�
 use native.Mathlib.Omega.{arith}
 use native.Mathlib.Nat.{suc-add}
 use lib.ListN.{length, drop, length-append}
-use Rattle.slash.specs.Answers.{Outcome, stop, done}
+use Rattle.std.specs.Prelude.{Some, None, Ok, Err}
+use Rattle.slash.specs.Answers.{Outcome, done}
+use Rattle.slash.specs.declared.answer.Stop.{Stop}
 use Rattle.breaths.specs.Breaths.{breath_ratio}
 use Rattle.breaths.specs.Sums.{no_sums, night_ratio, add_sums, not_void, total, sums_of}
 use Rattle.breaths.specs.Steps.{Proper}
@@ -47,9 +49,9 @@ all_line_lem s = refl
 
 module _ (steps : ℕ) (night : RatedNight) (bs : List ℕ) where
   abbrev listed : Outcome Coming → List ℕ
-  listed (done (a_breath entry)) = breath_line night.rate.ticks night.breath entry.breath ++ listing_from steps (with_line night entry.breath) (drop entry.used bs)
-  listed (done the_end) = all_line night.sums
-  listed (stop number place) = refused_line number place
+  listed (Ok (Some entry)) = breath_line night.rate.ticks night.breath entry.breath ++ listing_from steps (with_line night entry.breath) (drop entry.used bs)
+  listed (Ok None) = all_line night.sums
+  listed (Err s) = refused_line s.number s.place
 
   listing_step : (x : Outcome Coming) → next_of night.breath bs ≡ x → listing_from (suc steps) night bs ≡ listed x
   unfolding listing_from
@@ -62,8 +64,8 @@ module _ (steps : ℕ) (night : RatedNight) (bs : List ℕ) where
   pub listing_end : next_of night.breath bs ≡ done the_end → listing_from (suc steps) night bs ≡ all_line night.sums
   listing_end e = listing_step (done the_end) e
 
-  pub listing_stop : {number place : ℕ} → next_of night.breath bs ≡ stop number place → listing_from (suc steps) night bs ≡ refused_line number place
-  listing_stop {number} {place} e = listing_step (stop number place) e
+  pub listing_stop : {s : Stop} → next_of night.breath bs ≡ Err s → listing_from (suc steps) night bs ≡ refused_line s.number s.place
+  listing_stop {s} e = listing_step (Err s) e
 
 -- by what a recording opens with
 module _ (bs : List ℕ) where
@@ -76,7 +78,7 @@ module _ (bs : List ℕ) where
   unfolding opened_listing
   opened_empty e = ap (λ (x : Outcome Start). opened_listing x bs) e
 
-  pub opened_stopped : {number place : ℕ} → first_of bs ≡ stop number place → opened_listing (first_of bs) bs ≡ refused_line number place
+  pub opened_stopped : {s : Stop} → first_of bs ≡ Err s → opened_listing (first_of bs) bs ≡ refused_line s.number s.place
   unfolding opened_listing
   opened_stopped e = ap (λ (x : Outcome Start). opened_listing x bs) e
 
@@ -109,14 +111,14 @@ listing_steps (suc steps) more night bs r e =
     go : (x : Outcome Coming) → next_of night.breath bs ≡ x
         → ((n : RatedNight) (rest : List ℕ) → Real n → n.breath + steps ≡ 65538 → listing_from (steps + more) n rest ≡ listing_from steps n rest)
         → listing_from (suc (steps + more)) night bs ≡ listing_from (suc steps) night bs
-    go (done (a_breath entry)) n ih =
+    go (Ok (Some entry)) n ih =
         let b : Breath = entry.breath in
         let number : (with_line night b).breath + steps ≡ 65538 = omega (arith, breath_suc night b) in
         listing_more (steps + more) night bs entry n
         ∙ ap (λ (u : List ℕ). breath_line night.rate.ticks night.breath b ++ u) (ih (with_line night b) (drop entry.used bs) (follows_real night r bs entry n) number)
         ∙ sym (listing_more steps night bs entry n)
-    go (done the_end) n ih = listing_end (steps + more) night bs n ∙ sym (listing_end steps night bs n)
-    go (stop number place) n ih = listing_stop (steps + more) night bs n ∙ sym (listing_stop steps night bs n)
+    go (Ok None) n ih = listing_end (steps + more) night bs n ∙ sym (listing_end steps night bs n)
+    go (Err s) n ih = listing_stop (steps + more) night bs n ∙ sym (listing_stop steps night bs n)
 
 -- ---- its percentages
 
@@ -148,15 +150,15 @@ lines_length (suc steps) night bs r e = go (next_of night.breath bs) refl (λ n 
     go : (x : Outcome Coming) → next_of night.breath bs ≡ x
         → ((n : RatedNight) (rest : List ℕ) → Real n → n.breath + steps ≡ 65538 → 2 + length (listing_from steps n rest) ≤ 33 * steps)
         → 2 + length (listing_from (suc steps) night bs) ≤ 33 * suc steps
-    go (done (a_breath entry)) n ih =
+    go (Ok (Some entry)) n ih =
         let b : Breath = entry.breath in
         let rest : List ℕ = listing_from steps (with_line night b) (drop entry.used bs) in
         let behind = ih (with_line night b) (drop entry.used bs) (follows_real night r bs entry n) (omega (arith, breath_suc night b)) in
         omega (arith, ap length (listing_more steps night bs entry n), length-append (breath_line night.rate.ticks night.breath b) rest, line_length night r b, behind)
-    go (done the_end) n ih = omega (arith, ap length (listing_end steps night bs n), last_length night.sums r.proper)
-    go (stop number place) n ih =
+    go (Ok None) n ih = omega (arith, ap length (listing_end steps night bs n), last_length night.sums r.proper)
+    go (Err s) n ih =
         let w = follows_stop night.breath bs n in
-        let short : length (refused_line number place) ≤ 17 = refused_length number place 1 4 (breath_short w.0) (omega (arith, w.1, r.few)) in
+        let short : length (refused_line s.number s.place) ≤ 17 = refused_length s.number s.place 1 4 (breath_short w.0) (omega (arith, w.1, r.few)) in
         omega (arith, ap length (listing_stop steps night bs n), short)
 
 pub listing_length : (bs : List ℕ) → length (listing_of bs) ≤ 2162719
@@ -164,12 +166,12 @@ unfolding listing_of listing_on
 listing_length bs = go (first_of bs) refl
   where
     go : (x : Outcome Start) → first_of bs ≡ x → length (opened_listing (first_of bs) bs) ≤ 2162719
-    go (done (a_rate o)) e =
+    go (Ok (Some o)) e =
         omega (arith, ap length (opened_rated bs o e), lines_length 65537 (rated o.rate) (drop o.used bs) (opened_real o.rate) (omega (arith, opened_breath o.rate)))
-    go (done no_line) e = omega (arith, ap length (opened_empty bs e), last_length no_sums (omega arith))
-    go (stop number place) e =
+    go (Ok None) e = omega (arith, ap length (opened_empty bs e), last_length no_sums (omega arith))
+    go (Err s) e =
         let w = first_stopped bs e in
-        let short : length (refused_line number place) ≤ 17 = refused_length number place 1 4 (first_short w.0) (omega (arith, w.1)) in
+        let short : length (refused_line s.number s.place) ≤ 17 = refused_length s.number s.place 1 4 (first_short w.0) (omega (arith, w.1)) in
         omega (arith, ap length (opened_stopped bs e), short)
 
 -- ---- the listing by its breaths
@@ -194,9 +196,9 @@ last_done : (s : Sums) → all_line s ≡ last_line s (done tt)
 unfolding last_line
 last_done s = refl
 
-last_stop : (s : Sums) (number place : ℕ) → refused_line number place ≡ last_line s (stop number place)
+last_stop : (sums : Sums) (s : Stop) → refused_line s.number s.place ≡ last_line sums (Err s)
 unfolding last_line
-last_stop s number place = refl
+last_stop sums s = refl
 
 -- from breath 1 to breath 65,537 a step is left
 listing_lines : (steps : ℕ) (night : RatedNight) (bs : List ℕ) → Real night → night.breath + steps ≡ 65538
@@ -213,7 +215,7 @@ listing_lines (suc steps) night bs r e = go (next_of night.breath bs) refl (λ n
         → ((n : RatedNight) (rest : List ℕ) → Real n → n.breath + steps ≡ 65538
         → listing_from steps n rest ≡ lines_of n (breaths_from steps n.breath rest) (check_from steps n.breath rest))
         → listing_from (suc steps) night bs ≡ lines_of night (breaths_from (suc steps) night.breath bs) (check_from (suc steps) night.breath bs)
-    go (done (a_breath entry)) n ih =
+    go (Ok (Some entry)) n ih =
         let b : Breath = entry.breath in
         let rest : List ℕ = drop entry.used bs in
         let breaths : List Breath = breaths_from steps (suc night.breath) rest in
@@ -225,12 +227,12 @@ listing_lines (suc steps) night bs r e = go (next_of night.breath bs) refl (λ n
         (ih behind rest (follows_real night r bs entry n) (omega (arith, breath_suc night b))
         ∙ ap (λ (k : ℕ). lines_of behind (breaths_from steps k rest) (check_from steps k rest)) (breath_suc night b))
         ∙ lines_some night b breaths o)
-    go (done the_end) n ih =
+    go (Ok None) n ih =
         from_as [] (done tt) (breaths_end steps night.breath bs n) (check_end steps night.breath bs n)
         (listing_end steps night bs n ∙ last_done night.sums ∙ lines_none night (done tt))
-    go (stop number place) n ih =
-        from_as [] (stop number place) (breaths_stop steps night.breath bs n) (check_stop steps night.breath bs n)
-        (listing_stop steps night bs n ∙ last_stop night.sums number place ∙ lines_none night (stop number place))
+    go (Err s) n ih =
+        from_as [] (Err s) (breaths_stop steps night.breath bs n) (check_stop steps night.breath bs n)
+        (listing_stop steps night bs n ∙ last_stop night.sums s ∙ lines_none night (Err s))
 
 -- the numbered lines of some breaths at a rate, and then the last
 numbered_lines : (rate : ℕ) → List Breath → Outcome (Unit {0}) → List ℕ
@@ -259,17 +261,17 @@ unfolding listing_of listing_on
 listing_breaths bs = go (first_of bs) refl
   where
     go : (x : Outcome Start) → first_of bs ≡ x → opened_listing (first_of bs) bs ≡ numbered 1 (ratios_of (rate_in bs) (breaths_in bs)) ++ last_line (sums_in bs) (recording_check bs)
-    go (done (a_rate o)) e =
+    go (Ok (Some o)) e =
         opened_rated bs o e
         ∙ rated_breaths o.rate (drop o.used bs)
         ∙ lines_in o.rate.ticks (breaths_on 1 (drop o.used bs)) (check_on 1 (drop o.used bs)) bs (rate_rated bs o e) (breaths_rated bs o e) (check_rated bs o e)
-    go (done no_line) e =
+    go (Ok None) e =
         opened_empty bs e ∙ last_done no_sums ∙ lines_nothing (rate_in bs) (done tt) ∙ lines_in (rate_in bs) [] (done tt) bs refl (breaths_empty bs e) (check_empty bs e)
-    go (stop number place) e =
+    go (Err s) e =
         opened_stopped bs e
-        ∙ last_stop no_sums number place
-        ∙ lines_nothing (rate_in bs) (stop number place)
-        ∙ lines_in (rate_in bs) [] (stop number place) bs refl (breaths_refused bs e) (check_refused bs e)
+        ∙ last_stop no_sums s
+        ∙ lines_nothing (rate_in bs) (Err s)
+        ∙ lines_in (rate_in bs) [] (Err s) bs refl (breaths_refused bs e) (check_refused bs e)
 
 -- Demand 3, of a night.
 pub best_night : (bs : List ℕ) → BestNight bs

@@ -9,6 +9,7 @@ use native.Mathlib.Numerals.{add-one}
 use native.Mathlib.Decide.{ℕ_discrete}
 use lib.Dec.{eqb, leb, ltb}
 use borrow.Author.Tests.{le-leb, lt-leb, leb-true, ltb-true, ltb-false, eqb-false, ne_eqb}
+use Rattle.std.specs.Prelude.{Option, Some, None}
 use Rattle.slash.specs.Answers.{done}
 use Rattle.slash.proofs.AnswerLaws.{done_inj, no_stop}
 use Rattle.breaths.specs.Sums.{no_sums, with_breath, added_outcome, one_more}
@@ -16,8 +17,6 @@ use Rattle.breaths.specs.Steps.{Proper}
 use Rattle.breaths.specs.declared.breath.Breath.{Breath}
 use Rattle.breaths.specs.declared.rate.Rate.{Rate}
 use Rattle.breaths.specs.declared.sums.Sums.{Sums}
-use Rattle.breaths.specs.declared.sums.Added.{Added}
-use Rattle.breaths.specs.declared.sums.Added.TheVariants.{Done, Full}
 use Rattle.breaths.proofs.RatioLaws.{or_parts}
 use Rattle.breaths.proofs.SumLaws.{sum_bounds, sum_proper, more_done}
 use Rattle.listing.specs.Nights.{rated, with_line, is_rated, is_night}
@@ -138,15 +137,15 @@ module _ (night : RatedNight) (r : Real night) where
       more_done night.rate.ticks night.sums b (omega (arith, p, w)) w
 
 -- what the function answers
-module _ (night : RatedNight) (e : is_rated night ≡ true) (t : night.rate.ticks < 2 ^ 32) (b : Breath) (a : Added) (ae : added_outcome a ≡ one_more night.rate.ticks night.sums b) where
+module _ (night : RatedNight) (e : is_rated night ≡ true) (t : night.rate.ticks < 2 ^ 32) (b : Breath) (a : Option Sums) (ae : added_outcome a ≡ one_more night.rate.ticks night.sums b) where
   added : added_outcome a ≡ done (with_breath night.rate.ticks night.sums b)
   added = ae ∙ night_fits night (night_real night e) t b
 
-  pub with_line_lem : (s : Sums) → a ≡ Done s → record { rate = night.rate; breath = night.breath + 1; sums = s } ≡ with_line night b
+  pub with_line_lem : (s : Sums) → a ≡ Some s → record { rate = night.rate; breath = night.breath + 1; sums = s } ≡ with_line night b
   unfolding with_line
   with_line_lem s d = rw (done_inj (sym (ap added_outcome d) ∙ added), add-one night.breath) refl
 
-  pub never_full : a ≡ Full → ⊥
+  pub never_full : a ≡ None → ⊥
   never_full d = no_stop (sym (ap added_outcome d) ∙ added)
 
 pub breath_suc : (night : RatedNight) (b : Breath) → (with_line night b).breath ≡ suc night.breath

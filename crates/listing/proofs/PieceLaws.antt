@@ -15,8 +15,9 @@ use lib.Dec.{leb, ltb}
 use lib.ListN.{length, drop, length-append, length-drop}
 use lib.Seq.{drop-append-le, drop-drop}
 use borrow.Author.Tests.{leb-true, ltb-true, ltb-false, le-leb, lt-leb}
-use Rattle.std.specs.Prelude.{if◌then◌else◌}
-use Rattle.slash.specs.Answers.{Outcome, stop, done, Stops}
+use Rattle.std.specs.Prelude.{Some, None, Ok, Err, if◌then◌else◌}
+use Rattle.slash.specs.Answers.{Outcome, done, Stops}
+use Rattle.slash.specs.declared.answer.Stop.{Stop}
 use Rattle.breaths.specs.Rates.{is_rate}
 use Rattle.breaths.specs.Sums.{no_sums}
 use Rattle.breaths.specs.declared.breath.Breath.{Breath}
@@ -112,13 +113,13 @@ module _ (steps : ℕ) (night : RatedNight) (bs : List ℕ) (last : Bool) (room 
       (piece_from steps (with_line night entry.breath) (drop entry.used bs) last (room - length (breath_line night.rate.ticks night.breath entry.breath)))
 
   -- a stop at the next line
-  abbrev pub refused_with : (number place : ℕ) → ListedPiece
-  refused_with number place = ends_here (Rated night) [] (Refused (record { number = number; place = place }))
+  abbrev pub refused_with : Stop → ListedPiece
+  refused_with s = ends_here (Rated night) [] (Refused s)
 
   surely : Outcome Coming → ListedPiece
-  surely (done (a_breath entry)) = further entry
-  surely (done the_end) = ends_here (Rated night) (all_line night.sums) Closed
-  surely (stop number place) = refused_with number place
+  surely (Ok (Some entry)) = further entry
+  surely (Ok None) = ends_here (Rated night) (all_line night.sums) Closed
+  surely (Err s) = refused_with s
 
   pieces_step : (t : Bool) → is_sure bs last room ≡ t → piece_from (suc steps) night bs last room ≡ elim t [ true ↦ surely (next_of night.breath bs) | false ↦ ends_here (Rated night) [] Open ]
   unfolding piece_from surely
@@ -139,23 +140,23 @@ module _ (steps : ℕ) (night : RatedNight) (bs : List ℕ) (last : Bool) (room 
     unfolding surely
     pieces_end e = surely_is (done the_end) e
 
-    pub pieces_stop : {number place : ℕ} → next_of night.breath bs ≡ stop number place → piece_from (suc steps) night bs last room ≡ refused_with number place
+    pub pieces_stop : {s : Stop} → next_of night.breath bs ≡ Err s → piece_from (suc steps) night bs last room ≡ refused_with s
     unfolding surely
-    pieces_stop {number} {place} e = surely_is (stop number place) e
+    pieces_stop {s} e = surely_is (Err s) e
 
   -- what holds in each case holds of the piece
   pub pieces_case : (P : ListedPiece → Type 0) → (is_sure bs last room ≡ false → P (ends_here (Rated night) [] Open))
       → (is_sure bs last room ≡ true → (entry : Entry) → next_of night.breath bs ≡ done (a_breath entry) → P (further entry))
       → (is_sure bs last room ≡ true → next_of night.breath bs ≡ done the_end → P (ends_here (Rated night) (all_line night.sums) Closed))
-      → (is_sure bs last room ≡ true → (number place : ℕ) → next_of night.breath bs ≡ stop number place → P (refused_with number place))
+      → (is_sure bs last room ≡ true → (s : Stop) → next_of night.breath bs ≡ Err s → P (refused_with s))
       → P (piece_from (suc steps) night bs last room)
   pieces_case P opened more ended stopped = go (is_sure bs last room) refl (next_of night.breath bs) refl
     where
       go : (t : Bool) → is_sure bs last room ≡ t → (x : Outcome Coming) → next_of night.breath bs ≡ x → P (piece_from (suc steps) night bs last room)
       go false t x n = subst P (sym (pieces_open t)) (opened t)
-      go true t (done (a_breath entry)) n = subst P (sym (pieces_more t entry n)) (more t entry n)
-      go true t (done the_end) n = subst P (sym (pieces_end t n)) (ended t n)
-      go true t (stop number place) n = subst P (sym (pieces_stop t n)) (stopped t number place n)
+      go true t (Ok (Some entry)) n = subst P (sym (pieces_more t entry n)) (more t entry n)
+      go true t (Ok None) n = subst P (sym (pieces_end t n)) (ended t n)
+      go true t (Err s) n = subst P (sym (pieces_stop t n)) (stopped t s n)
 
 -- ---- a piece of a night, whether its rate is read or not
 
@@ -192,23 +193,23 @@ module _ (bs : List ℕ) (last : Bool) (room : ℕ) where
     unfolding opened_piece
     first_end e = first_as (done no_line) e
 
-    pub first_stop : {number place : ℕ} → first_of bs ≡ stop number place → piece_of Begun bs last room ≡ ends_here Begun [] (Refused (record { number = number; place = place }))
+    pub first_stop : {s : Stop} → first_of bs ≡ Err s → piece_of Begun bs last room ≡ ends_here Begun [] (Refused s)
     unfolding opened_piece
-    first_stop {number} {place} e = first_as (stop number place) e
+    first_stop {s} e = first_as (Err s) e
 
   -- what holds in each case holds of the first piece
   pub first_case : (P : ListedPiece → Type 0) → (is_sure bs last room ≡ false → P (ends_here Begun [] Open))
       → (is_sure bs last room ≡ true → (o : Opening) → first_of bs ≡ done (a_rate o) → P (after_rate o))
       → (is_sure bs last room ≡ true → first_of bs ≡ done no_line → P (ends_here Begun (all_line no_sums) Closed))
-      → (is_sure bs last room ≡ true → (number place : ℕ) → first_of bs ≡ stop number place → P (ends_here Begun [] (Refused (record { number = number; place = place }))))
+      → (is_sure bs last room ≡ true → (s : Stop) → first_of bs ≡ Err s → P (ends_here Begun [] (Refused s)))
       → P (piece_of Begun bs last room)
   first_case P opened more ended stopped = go (is_sure bs last room) refl (first_of bs) refl
     where
       go : (t : Bool) → is_sure bs last room ≡ t → (x : Outcome Start) → first_of bs ≡ x → P (piece_of Begun bs last room)
       go false t x n = subst P (sym (first_open t)) (opened t)
-      go true t (done (a_rate o)) n = subst P (sym (first_rate t o n)) (more t o n)
-      go true t (done no_line) n = subst P (sym (first_end t n)) (ended t n)
-      go true t (stop number place) n = subst P (sym (first_stop t n)) (stopped t number place n)
+      go true t (Ok (Some o)) n = subst P (sym (first_rate t o n)) (more t o n)
+      go true t (Ok None) n = subst P (sym (first_end t n)) (ended t n)
+      go true t (Err s) n = subst P (sym (first_stop t n)) (stopped t s n)
 
 -- what holds of every piece of a night whose rate is read, and where the night is none
 pub rated_case : (P : ListedPiece → Type 0) (night : RatedNight) (bs : List ℕ) (last : Bool) (room : ℕ)
@@ -259,7 +260,7 @@ refusing (suc steps) night bs last room =
     (λ t. refusing_ends_here (Rated night) Open)
     (λ t entry n. further_refusing t entry n)
     (λ t n. closed_ends_here (Rated night) (all_line night.sums))
-    (λ t number place n. refusing_ends_here (Rated night) _)
+    (λ t s n. refusing_ends_here (Rated night) _)
   where
     further_refusing : is_sure bs last room ≡ true → (entry : Entry) → next_of night.breath bs ≡ done (a_breath entry)
         → IfStops (Rated night) (further steps night bs last room entry)
@@ -271,7 +272,7 @@ refuses Begun bs last room =
     (λ t. refusing_ends_here Begun Open)
     (λ t o e. refusing_line_then Begun [] o.used _ (omega (arith, (first_rated bs o e).0.ended)))
     (λ t e. closed_ends_here Begun (all_line no_sums))
-    (λ t number place e. refusing_ends_here Begun _)
+    (λ t s e. refusing_ends_here Begun _)
 refuses (Rated night) bs last room =
     rated_case (IfStops (Rated night)) night bs last room (λ e. refusing (65538 - night.breath) night bs last room) (refusing_ends_here (Rated night) NoNight)
 
@@ -325,10 +326,10 @@ module _ (more : List ℕ) (last : Bool) (ends : last ≡ true → more ≡ []) 
   unfolding ends_here rest_of goes_on
   goes_closed night bs text = sym (append-nil text)
 
-  goes_stopped : (night : Night) (bs text : List ℕ) (number place : ℕ) → text ≡ refused_line number place
-      → Goes bs text (ends_here night [] (Refused (record { number = number; place = place })))
+  goes_stopped : (night : Night) (bs text : List ℕ) (s : Stop) → text ≡ refused_line s.number s.place
+      → Goes bs text (ends_here night [] (Refused s))
   unfolding ends_here rest_of goes_on
-  goes_stopped night bs text number place e = e
+  goes_stopped night bs text s e = e
 
   goes : (steps : ℕ) (night : RatedNight) (bs : List ℕ) (room : ℕ) → Real night → night.breath + steps ≡ 65538
       → Goes bs (listing_from steps night (bs ++ more)) (piece_from steps night bs last room)
@@ -340,7 +341,7 @@ module _ (more : List ℕ) (last : Bool) (ends : last ≡ true → more ≡ []) 
       (goes steps (with_line night entry.breath) (drop entry.used bs) (room - length (breath_line night.rate.ticks night.breath entry.breath))
       (follows_real night r bs entry n) (omega (arith, breath_suc night entry.breath, e))))
       (λ t n. subst (λ (u : List ℕ). Goes bs u (ends_here (Rated night) (all_line night.sums) Closed)) (sym (listing_end steps night (bs ++ more) (after t ∙ n))) (goes_closed (Rated night) bs (all_line night.sums)))
-      (λ t number place n. goes_stopped (Rated night) bs _ number place (listing_stop steps night (bs ++ more) (after t ∙ n)))
+      (λ t s n. goes_stopped (Rated night) bs _ s (listing_stop steps night (bs ++ more) (after t ∙ n)))
     where
       after : is_sure bs last room ≡ true → next_of night.breath (bs ++ more) ≡ next_of night.breath bs
       after t = sure_next night.breath bs more last room ends t
@@ -383,7 +384,7 @@ module _ (more : List ℕ) (last : Bool) (ends : last ≡ true → more ≡ []) 
       (λ t. goes_open Begun bs _ (begun_rest (bs ++ more)))
       (λ t o e. goes_rate bs room t o e)
       (λ t e. subst (λ (u : List ℕ). Goes bs u (ends_here Begun (all_line no_sums) Closed)) (sym (opened_empty (bs ++ more) (sure_first bs more last room ends t ∙ e))) (goes_closed Begun bs (all_line no_sums)))
-      (λ t number place e. goes_stopped Begun bs _ number place (opened_stopped (bs ++ more) (sure_first bs more last room ends t ∙ e)))
+      (λ t s e. goes_stopped Begun bs _ s (opened_stopped (bs ++ more) (sure_first bs more last room ends t ∙ e)))
 
 -- From a night on, the listing of some bytes and whatever follows them is the piece's text, and then what it goes on with: where the piece is
 -- open, the listing from its night of the bytes that it didn't use and whatever follows them; where it is refused, the line of the stop; else
@@ -410,8 +411,8 @@ StopOf (Rated night) number place = StopAt night.breath number place
 
 -- An end of a recording: a stop is one of those that it can cause, at the line that comes next.
 abbrev pub StopIn : Night → Outcome Bool → Type 0
-StopIn night (stop number place) = StopOf night number place
-StopIn night (done whole) = Unit {0}
+StopIn night (Err s) = StopOf night s.number s.place
+StopIn night (Ok whole) = Unit {0}
 
 -- It uses no more bytes than there are, its text has room, and the night behind it and its end are those of a recording.
 pub record Sound (bs : List ℕ) (room : ℕ) (l : ListedPiece) : Type 0 where
@@ -452,7 +453,7 @@ sound (suc steps) night bs last room r =
     (λ t entry n. further_sound t entry n
     (sound steps (with_line night entry.breath) (drop entry.used bs) last (room - length (breath_line night.rate.ticks night.breath entry.breath)) (follows_real night r bs entry n)))
     (λ t n. sound_ends_here bs room (Rated night) (all_line night.sums) Closed r (omega (arith, sure_room bs last room t, last_length night.sums r.proper)) tt)
-    (λ t number place n. sound_ends_here bs room (Rated night) [] _ r (omega arith) (follows_stop night.breath bs n))
+    (λ t s n. sound_ends_here bs room (Rated night) [] _ r (omega arith) (follows_stop night.breath bs n))
   where
     further_sound : is_sure bs last room ≡ true → (entry : Entry) → next_of night.breath bs ≡ done (a_breath entry)
         → Sound (drop entry.used bs) (room - length (breath_line night.rate.ticks night.breath entry.breath))
@@ -469,7 +470,7 @@ sound_first bs last room =
     (λ t. sound_ends_here bs room Begun [] Open tt (omega arith) tt)
     (λ t o e. rate_sound o e)
     (λ t e. sound_ends_here bs room Begun (all_line no_sums) Closed tt (omega (arith, sure_room bs last room t, last_length no_sums (omega arith))) tt)
-    (λ t number place e. sound_ends_here bs room Begun [] _ tt (omega arith) (first_stopped bs e))
+    (λ t s e. sound_ends_here bs room Begun [] _ tt (omega arith) (first_stopped bs e))
   where
     rate_sound : (o : Opening) → first_of bs ≡ done (a_rate o) → Sound bs room (after_rate bs last room o)
     rate_sound o e =
@@ -517,7 +518,7 @@ rate_from (suc steps) night bs last room g =
     (λ t entry n. further_rate entry
     (rate_from steps (with_line night entry.breath) (drop entry.used bs) last (room - length (breath_line night.rate.ticks night.breath entry.breath)) (rate_with_line night entry.breath g)))
     (λ t n. rate_ends_here (Rated night) (all_line night.sums) Closed g)
-    (λ t number place n. rate_ends_here (Rated night) [] _ g)
+    (λ t s n. rate_ends_here (Rated night) [] _ g)
   where
     further_rate : (entry : Entry)
         → RateIn (piece_from steps (with_line night entry.breath) (drop entry.used bs) last (room - length (breath_line night.rate.ticks night.breath entry.breath))).night
@@ -530,7 +531,7 @@ rate_first bs last room =
     (λ t. rate_ends_here Begun [] Open tt)
     (λ t o e. after_rate_lem o e)
     (λ t e. rate_ends_here Begun (all_line no_sums) Closed tt)
-    (λ t number place e. rate_ends_here Begun [] _ tt)
+    (λ t s e. rate_ends_here Begun [] _ tt)
   where
     after_rate_lem : (o : Opening) → first_of bs ≡ done (a_rate o) → RateIn (after_rate bs last room o).night
     after_rate_lem o e =
@@ -565,7 +566,7 @@ later (suc steps) night bs last room =
     (λ t entry n. further_later entry
     (later steps (with_line night entry.breath) (drop entry.used bs) last (room - length (breath_line night.rate.ticks night.breath entry.breath))))
     (λ t n. later_ends_here (Rated night) (all_line night.sums) Closed)
-    (λ t number place n. later_ends_here (Rated night) [] _)
+    (λ t s n. later_ends_here (Rated night) [] _)
   where
     further_later : (entry : Entry)
         → Later (Rated (with_line night entry.breath)) (piece_from steps (with_line night entry.breath) (drop entry.used bs) last (room - length (breath_line night.rate.ticks night.breath entry.breath)))
@@ -605,7 +606,7 @@ goes_on_lem steps night bs last room h =
     (λ t. waits (Rated night) bs last (unsure bs last room h t))
     (λ t entry n. further_on entry n)
     (λ t n. ends (Rated night) bs last (all_line night.sums) Closed tt)
-    (λ t number place n. ends (Rated night) bs last [] _ tt)
+    (λ t s n. ends (Rated night) bs last [] _ tt)
   where
     further_on : (entry : Entry) → next_of night.breath bs ≡ done (a_breath entry) → IfOpen (Rated night) bs last (further steps night bs last room entry)
     further_on entry n =
@@ -621,7 +622,7 @@ piece_on Begun bs last room e h =
     (λ t o n. more_line_then Begun bs last [] o.used _ (omega (arith, (first_rated bs o n).0.ended))
     (omega (arith, opened_breath o.rate, later 65537 (rated o.rate) (drop o.used bs) last room)))
     (λ t n. ends Begun bs last (all_line no_sums) Closed tt)
-    (λ t number place n. ends Begun bs last [] _ tt)
+    (λ t s n. ends Begun bs last [] _ tt)
 piece_on (Rated night) bs last room e h =
     let r : Real night = night_real night e in
     let step : 65538 - night.breath ≡ suc (65537 - night.breath) = omega (arith, r.few) in

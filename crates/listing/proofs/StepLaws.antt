@@ -9,7 +9,8 @@ use native.Mathlib.Omega.{arith}
 use native.Mathlib.Nat.{add-zero, zero-add, suc-add, add_assoc, sub-zero}
 use lib.ListN.{length, take, drop, length-drop}
 use lib.Seq.{drop-drop}
-use Rattle.slash.specs.Answers.{Stops}
+use Rattle.std.specs.Prelude.{Err}
+use Rattle.slash.specs.Answers.{Outcome, Stops, done}
 use Rattle.slash.specs.declared.answer.Stop.{Stop}
 use Rattle.breaths.specs.Breaths.{breath_ratio}
 use Rattle.breaths.specs.Sums.{no_sums, none_left, night_ratio}
@@ -23,15 +24,13 @@ use Rattle.text.specs.declared.line.Name.{Name}
 use Rattle.text.specs.declared.line.Name.TheVariants.{Number, All}
 use Rattle.text.proofs.NumberLaws.{put_front, store_none, stored_length, stored_as, chain}
 use Rattle.text.proofs.LineLaws.{number_name, printable_is, line_is, text_within}
-use Rattle.recording.specs.Openings.{first_outcome, first_of}
-use Rattle.recording.specs.Reading.{next_outcome, next_of}
+use Rattle.recording.specs.Openings.{a_rate, no_line, first_of}
+use Rattle.recording.specs.Reading.{Coming, a_breath, the_end, next_of}
 use Rattle.recording.specs.declared.line.Entry.{Entry}
 use Rattle.recording.specs.declared.opening.Opening.{Opening}
-use Rattle.recording.specs.declared.opening.First.{First}
-use Rattle.recording.specs.declared.reading.Next.{Next}
 use Rattle.recording.proofs.LineLaws.{Whole}
 use Rattle.text.proofs.PartLaws.{tail_is}
-use Rattle.recording.proofs.ReadingLaws.{follows_breath, first_is, opening_within}
+use Rattle.recording.proofs.ReadingLaws.{follows_breath, opening_within}
 use Rattle.listing.specs.Listing.{breath_line, all_line}
 use Rattle.listing.specs.Nights.{rated, with_line, is_rated, is_night}
 use Rattle.listing.specs.Pieces.{end_outcome, ListedPiece, left_to_next, ends_here, line_then, is_sure, piece_from, piece_of, answer_of, MakesListing, BestPiece}
@@ -195,32 +194,32 @@ module _ {bs : List ℕ} {last : Bool} {o : List ℕ} {night : RatedNight} {o' :
         → Stored o' at (line_in (length o' - at) name r) o'' k → Stored o' at (line_of name r) o'' k
     line_here name r n s w = stored_as (sym (line_is o' at name r room n s)) w
 
-    module _ (x : Next) (xe : next_outcome x ≡ next_of next.breath (take (length bs - from) (drop from bs))) where
-      next_here : next_of next.breath (drop from bs) ≡ next_outcome x
+    module _ {x : Outcome Coming} (xe : x ≡ next_of next.breath (take (length bs - from) (drop from bs))) where
+      next_here : next_of next.breath (drop from bs) ≡ x
       next_here = sym (xe ∙ ap (next_of next.breath) (tail_is from bs))
 
-      pub piecing_closed : x ≡ Next.End → (r : Ratio) → r ≡ night_ratio next.sums → {o'' : List ℕ} {k : ℕ}
+      pub piecing_closed : x ≡ done the_end → (r : Ratio) → r ≡ night_ratio next.sums → {o'' : List ℕ} {k : ℕ}
           → Stored o' at (line_in (length o' - at) All r) o'' k
           → Answers (piece_of (Rated night) bs last (length o)) o o'' (record { used = from; length = k; night = Rated next; end = Closed })
       piecing_closed d r e {o''} {k} w =
           let shown : is_printable r ≡ true = ap is_printable e ∙ printable_is _ (night_proportion next.sums i.real.proper) in
           let s : Stored o' at (all_line next.sums) o'' k = stored_as (ap (line_of All) e ∙ all_line_lem next.sums) (line_here All r all_name shown w) in
           answered (all_line next.sums) Closed Closed (left_closed from)
-          (pieces_end (65537 - next.breath) next (drop from bs) last (length o - at) sure (next_here ∙ ap next_outcome d))
+          (pieces_end (65537 - next.breath) next (drop from bs) last (length o - at) sure (next_here ∙ d))
           (chain i.stored s)
           (omega (arith, s.next, last_length next.sums i.real.proper, room, piecing_long))
 
-      pub piecing_stopped : (s : Stop) → x ≡ Next.Stopped s → (end : End) → end ≡ left_to_next from (Refused s)
+      pub piecing_stopped : (s : Stop) → x ≡ Err s → (end : End) → end ≡ left_to_next from (Refused s)
           → Answers (piece_of (Rated night) bs last (length o)) o o' (record { used = from; length = at; night = Rated next; end = end })
       piecing_stopped s d end e =
           answered [] (Refused s) end e
-          (pieces_stop (65537 - next.breath) next (drop from bs) last (length o - at) sure (next_here ∙ ap next_outcome d))
+          (pieces_stop (65537 - next.breath) next (drop from bs) last (length o - at) sure (next_here ∙ d))
           (chain i.stored (store_none o' at))
           i.fits
 
-      module _ (entry : Entry) (d : x ≡ Next.Breath entry) where
+      module _ (entry : Entry) (d : x ≡ done (a_breath entry)) where
         follows : (next.breath ≤ 65536) × Whole (drop from bs) entry.used
-        follows = follows_breath next.breath (drop from bs) entry (next_here ∙ ap next_outcome d)
+        follows = follows_breath next.breath (drop from bs) entry (next_here ∙ d)
 
         pub piecing_used : (1 ≤ entry.used) × (from + entry.used ≤ length bs)
         piecing_used = (omega (arith, follows.1.ended), omega (arith, follows.1.within, length-drop from bs))
@@ -235,13 +234,13 @@ module _ {bs : List ℕ} {last : Bool} {o : List ℕ} {night : RatedNight} {o' :
             let left : length o - at - length line ≡ length o - k = omega (arith, s.next) in
             let l : ℕ → List ℕ → ℕ → ListedPiece = λ n rest m. piece_from n behind rest last m in
             record {
-              real = follows_real next i.real (drop from bs) entry (next_here ∙ ap next_outcome d);
+              real = follows_real next i.real (drop from bs) entry (next_here ∙ d);
               within = piecing_used.1;
               fits = omega (arith, s.next, room, piecing_long, line_length next i.real b);
               text = i.text ++ line;
               stored = chain i.stored s;
               total =
-                  here _ (pieces_more (65537 - next.breath) next (drop from bs) last (length o - at) sure entry (next_here ∙ ap next_outcome d))
+                  here _ (pieces_more (65537 - next.breath) next (drop from bs) last (length o - at) sure entry (next_here ∙ d))
                   ∙ line_then_line_then i.text line from entry.used (l (65537 - next.breath) (drop entry.used (drop from bs)) (length o - at - length line))
                   ∙ ap (λ (n : ℕ). line_then (i.text ++ line) (from + entry.used) (l n (drop entry.used (drop from bs)) (length o - at - length line))) steps
                   ∙ ap (λ (u : List ℕ). line_then (i.text ++ line) (from + entry.used) (l (65538 - behind.breath) u (length o - at - length line))) (drop-drop entry.used from bs)
@@ -285,32 +284,20 @@ module _ (used : ℕ) (end : End) where
   pub left_whole : end ≡ Closed → Closed ≡ left_to_next used end
   left_whole d = left_closed used ∙ ap (left_to_next used) (sym d)
 
-  pub left_more : end ≡ Open → Open ≡ left_to_next used end
-  left_more d = left_open used ∙ ap (left_to_next used) (sym d)
-
   pub left_none : used ≡ 0 → end ≡ left_to_next used end
   unfolding left_to_next
   left_none e = ap (λ (n : ℕ). left_to_next n end) (sym e)
 
-  module _ (some : used ≡ 0 → ⊥) where
-    pub left_some : (known : End) → end ≡ known → left_to_next 1 known ≡ left_to_next used end
-    unfolding left_to_next
-    left_some known d = go used known some ∙ ap (left_to_next used) (sym d)
-      where
-        go : (n : ℕ) (e : End) → (n ≡ 0 → ⊥) → left_to_next 1 e ≡ left_to_next n e
-        go zero e h = absurd (h refl)
-        go (suc n) Open h = refl
-        go (suc n) Closed h = refl
-        go (suc n) (Refused s) h = refl
-        go (suc n) NoNight h = refl
-
-    pub left_refused : (s : Stop) → end ≡ Refused s → Open ≡ left_to_next used end
-    unfolding left_to_next
-    left_refused s d = left_some (Refused s) d
-
-    pub left_no_night : end ≡ NoNight → Open ≡ left_to_next used end
-    unfolding left_to_next
-    left_no_night d = left_some NoNight d
+  pub left_behind : (used ≡ 0 → ⊥) → (end ≡ Closed → ⊥) → Open ≡ left_to_next used end
+  unfolding left_to_next
+  left_behind some other = go used end some other
+    where
+      go : (n : ℕ) (e : End) → (n ≡ 0 → ⊥) → (e ≡ Closed → ⊥) → Open ≡ left_to_next n e
+      go zero e h k = absurd (h refl)
+      go (suc n) Open h k = refl
+      go (suc n) Closed h k = absurd (k refl)
+      go (suc n) (Refused s) h k = refl
+      go (suc n) NoNight h k = refl
 
 pub behind_rate_lem : (used : ℕ) (p : Piece) (end : End) → end ≡ left_to_next used p.end
     → record { used = used + p.used; length = p.length; night = p.night; end = end } ≡ behind_rate used p
@@ -351,34 +338,34 @@ module _ (night : Night) (bs : List ℕ) (last : Bool) (o o' : List ℕ) (p : Pi
       (piece_on night bs last (length o) e h (sym (ap (λ (q : Piece). q.end) a.0) ∙ opened))
 
 -- the piece behind a rate line uses no more bytes than there are
-pub first_room : (bs : List ℕ) (x : First) → first_outcome x ≡ first_of bs → (opening : Opening) → x ≡ First.Rate opening → (last : Bool) (o o' : List ℕ) (p : Piece)
+pub first_room : (bs : List ℕ) (opening : Opening) → first_of bs ≡ done (a_rate opening) → (last : Bool) (o o' : List ℕ) (p : Piece)
     → (night : RatedNight) → night ≡ rated opening.rate
     → Answers (piece_of (Rated night) (take (length bs - opening.used) (drop opening.used bs)) last (length o)) o o' p → opening.used + p.used ≤ length bs
 unfolding is_night
-first_room bs x xe opening d last o o' p night ne a =
+first_room bs opening d last o o' p night ne a =
     let rest : List ℕ = take (length bs - opening.used) (drop opening.used bs) in
     let e : is_night (Rated night) ≡ true = ap is_rated ne ∙ real_night _ (opened_real opening.rate) in
     let used = (piece_answer (Rated night) rest last o o' p e a).0 in
-    omega (arith, used, opening_within bs x xe opening d, ap length (tail_is opening.used bs), length-drop opening.used bs)
+    omega (arith, used, opening_within bs d, ap length (tail_is opening.used bs), length-drop opening.used bs)
 
 -- the answers of `put_first`
 module _ (bs : List ℕ) (last : Bool) (o : List ℕ) where
   pub first_waits : is_sure bs last (length o) ≡ false → Answers (piece_of Begun bs last (length o)) o o (record { used = 0; length = 0; night = Begun; end = Open })
   first_waits e = answers_none _ Begun Open o (first_open bs last (length o) e)
 
-  module _ (sure : is_sure bs last (length o) ≡ true) (x : First) (xe : first_outcome x ≡ first_of bs) where
-    pub first_refuses : (s : Stop) → x ≡ First.Stopped s → Answers (piece_of Begun bs last (length o)) o o (record { used = 0; length = 0; night = Begun; end = Refused s })
-    first_refuses s d = answers_none _ Begun (Refused s) o (first_stop bs last (length o) sure (first_is bs x xe (First.Stopped s) d))
+  module _ (sure : is_sure bs last (length o) ≡ true) where
+    pub first_refuses : (s : Stop) → first_of bs ≡ Err s → Answers (piece_of Begun bs last (length o)) o o (record { used = 0; length = 0; night = Begun; end = Refused s })
+    first_refuses s d = answers_none _ Begun (Refused s) o (first_stop bs last (length o) sure d)
 
-    pub first_closed : x ≡ First.End → {o' : List ℕ} {k : ℕ} → Stored o 0 (line_in (length o - 0) All Void) o' k
+    pub first_closed : first_of bs ≡ done no_line → {o' : List ℕ} {k : ℕ} → Stored o 0 (line_in (length o - 0) All Void) o' k
         → Answers (piece_of Begun bs last (length o)) o o' (record { used = 0; length = k; night = Begun; end = Closed })
     first_closed d {o'} {k} w =
         let room : 33 ≤ length o - 0 = omega (arith, sure_room bs last (length o) sure) in
         let s : Stored o 0 (all_line no_sums) o' k = stored_as (sym (line_is o 0 All Void room all_name void_shown) ∙ void_line) w in
-        subst (λ (l : ListedPiece). Answers l o o' (record { used = 0; length = k; night = Begun; end = Closed })) (sym (first_end bs last (length o) sure (first_is bs x xe First.End d)))
+        subst (λ (l : ListedPiece). Answers l o o' (record { used = 0; length = k; night = Begun; end = Closed })) (sym (first_end bs last (length o) sure d))
         (answers_closed Begun (all_line no_sums) s (omega (arith, s.next, last_length no_sums (omega arith), room)))
 
-    module _ (opening : Opening) (d : x ≡ First.Rate opening) where
+    module _ (opening : Opening) (d : first_of bs ≡ done (a_rate opening)) where
       pub first_goes : {night : RatedNight} → night ≡ rated opening.rate → {o' : List ℕ} {p : Piece}
           → Answers (piece_of (Rated night) (take (length bs - opening.used) (drop opening.used bs)) last (length o)) o o' p → {q : Piece} → q ≡ behind_rate opening.used p
           → Answers (piece_of Begun bs last (length o)) o o' q
@@ -390,5 +377,5 @@ module _ (bs : List ℕ) (last : Bool) (o : List ℕ) where
           ∙ rated_is (rated opening.rate) (drop opening.used bs) last (length o) (real_night _ (opened_real opening.rate))
           ∙ ap (λ (b : ℕ). piece_from (65538 - b) (rated opening.rate) (drop opening.used bs) last (length o)) (opened_breath opening.rate)
           in
-          subst (λ (m : ListedPiece). Answers m o o' q) (sym (first_rate bs last (length o) sure opening (first_is bs x xe (First.Rate opening) d)))
+          subst (λ (m : ListedPiece). Answers m o o' q) (sym (first_rate bs last (length o) sure opening d))
           (answers_behind opening.used l o o' p (subst (λ (m : ListedPiece). Answers m o o' p) these a) q e)

@@ -6,16 +6,16 @@ use mathlib.Core.List.{List, [], ◌++◌}
 use Prim.Native.Nat.{ℕ, zero, suc, ◌+◌, ◌-◌, ◌*◌, ◌≤◌}
 use native.Mathlib.Omega.{arith}
 use lib.ListN.{length, drop}
-use Rattle.slash.specs.Answers.{Outcome, stop, done, ◌then◌, completion_outcome}
+use Rattle.std.specs.Prelude.{Some, None, Ok, Err}
+use Rattle.slash.specs.Answers.{Outcome, stop, done, ◌then◌}
 use Rattle.slash.specs.declared.answer.Stop.{Stop}
-use Rattle.slash.specs.declared.answer.Completion.{Completion}
 use Rattle.slash.proofs.AnswerLaws.{no_stop, then_stopped}
 use Rattle.breaths.specs.Sums.{no_sums}
 use Rattle.breaths.specs.declared.breath.Breath.{Breath}
 use Rattle.breaths.specs.declared.rate.Rate.{Rate}
 use Rattle.text.specs.Stores.{at_start, length_of, list_after}
-use Rattle.recording.specs.Openings.{Start, a_rate, no_line, first_of}
-use Rattle.recording.specs.Reading.{Coming, a_breath, the_end, next_of, check_from, check_on, recording_check, RecordingStop}
+use Rattle.recording.specs.Openings.{Start, first_of}
+use Rattle.recording.specs.Reading.{Coming, next_of, check_from, check_on, recording_check, RecordingStop}
 use Rattle.recording.proofs.ReadingLaws.{check_more, check_stop, check_stops, check_rated, check_refused}
 use Rattle.listing.specs.Listing.{breath_line, all_line, listing_from, opened_listing, listing_on, listing_of, night_outcome, BestNight}
 use Rattle.listing.specs.Nights.{rated, with_line}
@@ -53,7 +53,7 @@ whole_step steps night bs room most r h short good ih = go (next_of night.breath
     sure = sym (sure_last bs true room h refl)
 
     go : (x : Outcome Coming) → next_of night.breath bs ≡ x → (piece_from (suc steps) night bs true room).text ≡ listing_from (suc steps) night bs
-    go (done (a_breath entry)) n =
+    go (Ok (Some entry)) n =
         let b : Breath = entry.breath in
         let line : List ℕ = breath_line night.rate.ticks night.breath b in
         let behind : RatedNight = with_line night b in
@@ -66,11 +66,11 @@ whole_step steps night bs room most r h short good ih = go (next_of night.breath
         ∙ line_then_text line entry.used (piece_from steps behind rest true left)
         ∙ ap (λ (u : List ℕ). line ++ u) (ih behind rest left (follows_real night r bs entry n) (breath_suc night b) (omega (arith, short b)) still)
         ∙ sym (listing_more steps night bs entry n)
-    go (done the_end) n =
+    go (Ok None) n =
         ap (λ (l : ListedPiece). l.text) (pieces_end steps night bs true room sure n)
         ∙ ends_here_text (Rated night) (all_line night.sums)
         ∙ sym (listing_end steps night bs n)
-    go (stop number place) n = absurd (no_stop (sym (check_stop steps night.breath bs n) ∙ good))
+    go (Err s) n = absurd (no_stop (sym (check_stop steps night.breath bs n) ∙ good))
 
 -- 33 bytes for each line
 whole : (steps : ℕ) (night : RatedNight) (bs : List ℕ) (room : ℕ) → Real night → night.breath + steps ≡ 65538 → 33 * steps ≤ room
@@ -96,14 +96,14 @@ whole_listing bs good = go (first_of bs) refl
     sure = sym (sure_last bs true 2162719 (omega arith) refl)
 
     go : (x : Outcome Start) → first_of bs ≡ x → (piece_of Begun bs true 2162719).text ≡ opened_listing (first_of bs) bs
-    go (done (a_rate o)) e =
+    go (Ok (Some o)) e =
         ap (λ (l : ListedPiece). l.text) (first_rate bs true 2162719 sure o e)
         ∙ line_then_text [] o.used (piece_from 65537 (rated o.rate) (drop o.used bs) true 2162719)
         ∙ whole_rated o.rate (drop o.used bs) (sym (check_rated bs o e) ∙ good)
         ∙ sym (opened_rated bs o e)
-    go (done no_line) e =
+    go (Ok None) e =
         ap (λ (l : ListedPiece). l.text) (first_end bs true 2162719 sure e) ∙ ends_here_text Begun (all_line no_sums) ∙ sym (opened_empty bs e)
-    go (stop number place) e = absurd (no_stop (sym (check_refused bs e) ∙ good))
+    go (Err s) e = absurd (no_stop (sym (check_refused bs e) ∙ good))
 
 -- ---- the answers
 
@@ -115,22 +115,20 @@ pub night_stops : (bs : List ℕ) (number place : ℕ) → night_outcome bs ≡ 
 unfolding night_outcome
 night_stops bs number place e = check_stops bs number place (sym (then_stopped (listing_of bs) (recording_check bs) (sym e)))
 
-pub list_done : (bs o o' : List ℕ) (p : Piece) (c : Completion) → completion_outcome c ≡ recording_check bs → c ≡ Completion.Done → length o ≡ 2162719
+pub list_done : (bs o o' : List ℕ) (p : Piece) → done tt ≡ recording_check bs → length o ≡ 2162719
     → Answers (piece_of Begun bs true (length o)) o o' p
     → (done p.length ≡ length_of (night_outcome bs)) × ((o' ≡ list_after (night_outcome bs) o) × BestNight bs)
 unfolding answer_of length_of list_after
-list_done bs o o' p c e g long a =
-    let good : done tt ≡ recording_check bs = ap completion_outcome (sym g) ∙ e in
+list_done bs o o' p good long a =
     let night-done : done (listing_of bs) ≡ night_outcome bs = night_is bs (done tt) good in
     let text : (piece_of Begun bs true (length o)).text ≡ listing_of bs = ap (λ (m : ℕ). (piece_of Begun bs true m).text) long ∙ whole_listing bs (sym good) in (
       ap done (ap (λ (q : Piece). q.length) a.0 ∙ ap length text) ∙ ap length_of night-done,
       (a.1 ∙ ap (λ (t : List ℕ). at_start t o) text ∙ ap (λ (x : Outcome (List ℕ)). list_after x o) night-done, best_night bs),
     )
 
-pub list_stopped : (bs o : List ℕ) (c : Completion) → completion_outcome c ≡ recording_check bs → (s : Stop) → c ≡ Completion.Stopped s
-    → (stop s.number s.place ≡ length_of (night_outcome bs)) × ((o ≡ list_after (night_outcome bs) o) × BestNight bs)
+pub list_stopped : (bs o : List ℕ) {s : Stop} → Err s ≡ recording_check bs
+    → (Err s ≡ length_of (night_outcome bs)) × ((o ≡ list_after (night_outcome bs) o) × BestNight bs)
 unfolding length_of list_after
-list_stopped bs o c e s g =
-    let bad : stop s.number s.place ≡ recording_check bs = ap completion_outcome (sym g) ∙ e in
-    let night-stop : stop s.number s.place ≡ night_outcome bs = night_is bs (stop s.number s.place) bad in
+list_stopped bs o {s} bad =
+    let night-stop : Err s ≡ night_outcome bs = night_is bs (Err s) bad in
     (ap length_of night-stop, (ap (λ (x : Outcome (List ℕ)). list_after x o) night-stop, best_night bs))

@@ -1,6 +1,6 @@
 -- A night's listing, from the bytes of its recording.
-use Rattle.std.specs.Prelude.{ℕ, zero, suc, List, [], ◌∷◌, ◌++◌, ◌≡◌, drop}
-use Rattle.slash.specs.Answers.{Outcome, stop, done, ◌then◌}
+use Rattle.std.specs.Prelude.{ℕ, zero, suc, Some, None, Ok, Err, List, [], ◌∷◌, ◌++◌, ◌≡◌, drop}
+use Rattle.slash.specs.Answers.{Outcome, done, ◌then◌}
 use Rattle.breaths.specs.Breaths.{breath_ratio, BestBreaths}
 use Rattle.breaths.specs.Sums.{no_sums, night_ratio, sums_of}
 use Rattle.breaths.specs.Ratios.{BestRatio}
@@ -9,8 +9,8 @@ use Rattle.breaths.specs.declared.sums.Sums.{Sums}
 use Rattle.breaths.specs.declared.ratio.Ratio.{Ratio}
 use Rattle.text.specs.Lines.{line_of, numbered, refused_line}
 use Rattle.text.specs.declared.line.Name.TheVariants.{Number, All}
-use Rattle.recording.specs.Openings.{Start, a_rate, no_line, first_of}
-use Rattle.recording.specs.Reading.{a_breath, the_end, next_of, lines_from, rate_in, breaths_in, recording_check}
+use Rattle.recording.specs.Openings.{Start, first_of}
+use Rattle.recording.specs.Reading.{next_of, lines_from, rate_in, breaths_in, recording_check}
 use Rattle.listing.specs.Nights.{rated, with_line}
 use Rattle.listing.specs.declared.night.Night.{Night}
 use Rattle.listing.specs.declared.night.Night.TheVariants.{Begun, Rated}
@@ -34,9 +34,9 @@ unfoldable pub listing_from : (steps : ℕ) → RatedNight → List ℕ → List
 listing_from zero night bs = []
 listing_from (suc steps) night bs =
     elim (next_of night.breath bs) [
-      | done (a_breath entry) ↦ breath_line night.rate.ticks night.breath entry.breath ++ listing_from steps (with_line night entry.breath) (drop entry.used bs)
-      | done the_end ↦ all_line night.sums
-      | stop number place ↦ refused_line number place
+      | Ok (Some entry) ↦ breath_line night.rate.ticks night.breath entry.breath ++ listing_from steps (with_line night entry.breath) (drop entry.used bs)
+      | Ok None ↦ all_line night.sums
+      | Err s ↦ refused_line s.number s.place
     ]
 
 -- As many steps as there can be lines are enough (proved: `listing_steps`).
@@ -45,9 +45,9 @@ rated_listing night bs = listing_from (lines_from night.breath) night bs
 
 -- The listing by what a recording opens with: its rate line has no line in it.
 unfoldable pub opened_listing : Outcome Start → List ℕ → List ℕ
-opened_listing (done (a_rate opening)) bs = rated_listing (rated opening.rate) (drop opening.used bs)
-opened_listing (done no_line) bs = all_line no_sums
-opened_listing (stop number place) bs = refused_line number place
+opened_listing (Ok (Some opening)) bs = rated_listing (rated opening.rate) (drop opening.used bs)
+opened_listing (Ok None) bs = all_line no_sums
+opened_listing (Err s) bs = refused_line s.number s.place
 
 -- The listing from a night on.
 unfoldable pub listing_on : Night → List ℕ → List ℕ
@@ -67,8 +67,8 @@ ratios_of rate (b ∷ bs) = breath_ratio rate b ∷ ratios_of rate bs
 
 -- What a listing ends with: `all`; or `refused`, the stop's number and the line.
 unfoldable pub last_line : Sums → Outcome (Unit {0}) → List ℕ
-last_line s (stop number place) = refused_line number place
-last_line s (done x) = all_line s
+last_line sums (Err s) = refused_line s.number s.place
+last_line sums (Ok x) = all_line sums
 
 -- ---- what listing a whole recording comes to
 

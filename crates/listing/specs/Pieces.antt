@@ -1,7 +1,7 @@
 -- A listing made in pieces: what is listed of some bytes where others may follow them.
-use Rattle.std.specs.Prelude.{ℕ, zero, suc, ◌-◌, ◌+◌, List, [], ◌++◌, ◌≡◌, Bool, true, false, ◌&&◌, ◌||◌, drop, length, take, leb, ltb}
+use Rattle.std.specs.Prelude.{ℕ, zero, suc, ◌-◌, ◌+◌, Some, None, Ok, Err, List, [], ◌++◌, ◌≡◌, Bool, true, false, ◌&&◌, ◌||◌, drop, length, take, leb, ltb}
 use Rattle.std.specs.Prelude.{if◌then◌else◌}
-use Rattle.slash.specs.Answers.{Outcome, stop, done, unnumbered}
+use Rattle.slash.specs.Answers.{Outcome, done, unnumbered}
 use Rattle.breaths.specs.Sums.{no_sums, night_ratio, sums_of, add_sums}
 use Rattle.breaths.specs.Ratios.{BestRatio}
 use Rattle.breaths.specs.Breaths.{BestBreaths}
@@ -10,8 +10,8 @@ use Rattle.breaths.specs.declared.sums.Sums.{Sums}
 use Rattle.text.specs.Lines.{numbered, refused_line, longest_line}
 use Rattle.text.specs.Scan.{length_before}
 use Rattle.recording.specs.Lines.{most_bytes}
-use Rattle.recording.specs.Openings.{Start, a_rate, no_line, first_of}
-use Rattle.recording.specs.Reading.{a_breath, the_end, next_of, lines_from, breaths_on, rate_in, breaths_in}
+use Rattle.recording.specs.Openings.{Start, first_of}
+use Rattle.recording.specs.Reading.{next_of, lines_from, breaths_on, rate_in, breaths_in}
 use Rattle.listing.specs.Nights.{rated, with_line, is_rated, is_night, next_breath, sums_so_far}
 use Rattle.listing.specs.Listing.{breath_line, all_line, listing_on, ratios_of}
 use Rattle.listing.specs.declared.night.Night.{Night}
@@ -25,7 +25,7 @@ use Rattle.listing.specs.declared.piece.Piece.{Piece}
 abbrev pub end_outcome : End → Outcome Bool
 end_outcome Open = done false
 end_outcome Closed = done true
-end_outcome (Refused s) = stop s.number s.place
+end_outcome (Refused s) = Err s
 end_outcome NoNight = unnumbered
 
 -- The text that is listed, how many bytes it uses, the night behind it, and whether it is the end.
@@ -39,7 +39,7 @@ pub record ListedPiece : Type 0 where
 -- nothing.
 unfoldable pub left_to_next : (used : ℕ) → End → End
 left_to_next zero end = end
-left_to_next (suc used) end = elim (end_outcome end) [ stop number place ↦ Open | done whole ↦ end ]
+left_to_next (suc used) end = elim (end_outcome end) [ Err s ↦ Open | Ok whole ↦ end ]
 
 -- Nothing more is used; what is listed may be the last line.
 unfoldable pub ends_here : Night → List ℕ → End → ListedPiece
@@ -61,10 +61,10 @@ piece_from (suc steps) night bs last room =
     elim (is_sure bs last room) [
       | false ↦ ends_here (Rated night) [] Open
       | true ↦ elim (next_of night.breath bs) [
-        | done (a_breath entry) ↦ line_then (breath_line night.rate.ticks night.breath entry.breath) entry.used
+        | Ok (Some entry) ↦ line_then (breath_line night.rate.ticks night.breath entry.breath) entry.used
             (piece_from steps (with_line night entry.breath) (drop entry.used bs) last (room - length (breath_line night.rate.ticks night.breath entry.breath)))
-        | done the_end ↦ ends_here (Rated night) (all_line night.sums) Closed
-        | stop number place ↦ ends_here (Rated night) [] (Refused (record { number = number; place = place }))
+        | Ok None ↦ ends_here (Rated night) (all_line night.sums) Closed
+        | Err s ↦ ends_here (Rated night) [] (Refused s)
       ]
     ]
 
@@ -73,9 +73,9 @@ rated_piece night bs last room = piece_from (lines_from night.breath) night bs l
 
 -- The same by what a recording opens with: its rate line uses bytes, and lists nothing.
 unfoldable pub opened_piece : Outcome Start → List ℕ → (last : Bool) (room : ℕ) → ListedPiece
-opened_piece (done (a_rate opening)) bs last room = line_then [] opening.used (rated_piece (rated opening.rate) (drop opening.used bs) last room)
-opened_piece (done no_line) bs last room = ends_here Begun (all_line no_sums) Closed
-opened_piece (stop number place) bs last room = ends_here Begun [] (Refused (record { number = number; place = place }))
+opened_piece (Ok (Some opening)) bs last room = line_then [] opening.used (rated_piece (rated opening.rate) (drop opening.used bs) last room)
+opened_piece (Ok None) bs last room = ends_here Begun (all_line no_sums) Closed
+opened_piece (Err s) bs last room = ends_here Begun [] (Refused s)
 
 -- What is listed of some bytes from a night on. Where the night is none of a recording, nothing is.
 unfoldable pub piece_of : Night → List ℕ → (last : Bool) (room : ℕ) → ListedPiece
@@ -92,9 +92,9 @@ answer_of l = record { used = l.used; length = length l.text; night = l.night; e
 -- whatever follows them; where it is refused, with the line of the stop; where it is whole, with nothing. (A night that comes of no
 -- recording is left out by `MakesListing`.)
 unfoldable pub goes_on : Outcome Bool → Night → List ℕ → List ℕ
-goes_on (done false) night bs = listing_on night bs
-goes_on (done true) night bs = []
-goes_on (stop number place) night bs = refused_line number place
+goes_on (Ok false) night bs = listing_on night bs
+goes_on (Ok true) night bs = []
+goes_on (Err s) night bs = refused_line s.number s.place
 
 -- The same of a piece of some bytes, and what follows them.
 unfoldable pub rest_of : ListedPiece → (bs more : List ℕ) → List ℕ
@@ -120,9 +120,9 @@ breaths_of (Rated night) used = breaths_on night.breath used
 
 -- What stands behind their lines: `all` where the recording ends.
 unfoldable pub end_text : Sums → Outcome Bool → List ℕ
-end_text s (done false) = []
-end_text s (done true) = all_line s
-end_text s (stop number place) = []
+end_text sums (Ok false) = []
+end_text sums (Ok true) = all_line sums
+end_text sums (Err s) = []
 
 -- From a night on, at a rate, a piece's text is the numbered lines of these breaths' ratios, and `all` at the end; and the sums behind it are those before
 -- it and those of the breaths.

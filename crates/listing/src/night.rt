@@ -2,7 +2,7 @@
 ghost use Rattle.std.specs.Prelude.{◌≡◌, true};
 ghost use Rattle.listing.specs.Nights.{rated, with_line, is_rated};
 
-use breaths::{Added, Breath, Rate, Sums};
+use breaths::{Breath, Rate, Sums};
 
 // Nothing of it is read yet, or its rate line is.
 #[derive(Clone, Copy)]
@@ -25,7 +25,7 @@ impl RatedNight {
         ensures { result ≡ rated rate }
     {
         RatedNight {
-            rate: rate,
+            rate,
             breath: 1,
             sums: Sums {
                 inspiration: 0,
@@ -43,8 +43,7 @@ pub(crate) fn is_rated(night: RatedNight) -> bool
     if (breath == 0) | (text::MOST_BREATHS + 1 < breath) {
         return false;
     }
-    let rate = night.rate;
-    let most = (breath - 1) as u64 * rate.longest_whole();
+    let most = (breath - 1) as u64 * night.rate.longest_whole();
     let sums = night.sums;
     (sums.whole <= most) & (sums.inspiration <= sums.whole)
 }
@@ -54,14 +53,12 @@ pub(crate) fn with_line(night: RatedNight, b: Breath) -> RatedNight
     requires { is_rated night ≡ true }
     ensures { result ≡ with_line night b }
 {
-    let rate = night.rate;
-    let sums = night.sums;
-    match sums.with_breath(b, rate) {
-        Added::Done(more) => RatedNight {
-            rate: rate,
+    match night.sums.with_breath(b, night.rate) {
+        Some(sums) => RatedNight {
             breath: night.breath + 1,
-            sums: more,
+            sums,
+            ..night
         },
-        Added::Full => night,
+        None => night,
     }
 }

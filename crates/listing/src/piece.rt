@@ -8,7 +8,7 @@ ghost use Rattle.listing.specs.Pieces.{end_outcome, is_sure, left_to_next, piece
 
 use crate::night::{Night, RatedNight, is_rated, with_line};
 use breaths::Ratio;
-use recording::{First, Next, first_line, next_breath};
+use recording::{first_line, next_breath};
 use slash::Stop;
 use text::{Name, length_before, put_line};
 
@@ -57,9 +57,7 @@ fn left_to_next(used: usize, end: End) -> End
     }
     match end {
         End::Closed => End::Closed,
-        End::Open => End::Open,
-        End::Refused(_) => End::Open,
-        End::NoNight => End::Open,
+        _ => End::Open,
     }
 }
 
@@ -74,24 +72,21 @@ fn put_lines(night: RatedNight, bytes: &[u8], last: bool, out: &mut [u8]) -> Pie
     let mut next = night;
     while is_sure(&bytes[from..], last, out.len() - at) {
         match next_breath(next.breath, &bytes[from..]) {
-            Next::Breath(entry) => {
-                let rate = next.rate;
+            Ok(Some(entry)) => {
                 let b = entry.breath;
-                at = put_line(out, at, Name::Number(next.breath), b.ratio(rate));
+                at = put_line(out, at, Name::Number(next.breath), b.ratio(next.rate));
                 next = with_line(next, b);
                 from += entry.used;
             }
-            Next::End => {
-                let sums = next.sums;
-                let length = put_line(out, at, Name::All, sums.ratio());
+            Ok(None) => {
                 return Piece {
                     used: from,
-                    length: length,
+                    length: put_line(out, at, Name::All, next.sums.ratio()),
                     night: Night::Rated(next),
                     end: End::Closed,
                 };
             }
-            Next::Stopped(stop) => {
+            Err(stop) => {
                 return Piece {
                     used: from,
                     length: at,
@@ -114,13 +109,10 @@ fn behind_rate(used: usize, piece: Piece) -> Piece
     requires { used + piece.used < 2 ^ 64 }
     ensures { result ≡ behind_rate used piece }
 {
-    let night = piece.night;
-    let end = piece.end;
     Piece {
         used: used + piece.used,
-        length: piece.length,
-        night: night,
-        end: left_to_next(used, end),
+        end: left_to_next(used, piece.end),
+        ..piece
     }
 }
 
@@ -139,22 +131,18 @@ pub(crate) fn put_first(bytes: &[u8], last: bool, out: &mut [u8]) -> Piece
         };
     }
     match first_line(bytes) {
-        First::Rate(opening) => {
+        Ok(Some(opening)) => {
             let used = opening.used;
-            let rate = opening.rate;
-            let night = RatedNight::opened(rate);
+            let night = RatedNight::opened(opening.rate);
             behind_rate(used, put_lines(night, &bytes[used..], last, out))
         }
-        First::End => {
-            let length = put_line(out, 0, Name::All, Ratio::Void);
-            Piece {
-                used: 0,
-                length: length,
-                night: Night::Begun,
-                end: End::Closed,
-            }
-        }
-        First::Stopped(stop) => Piece {
+        Ok(None) => Piece {
+            used: 0,
+            length: put_line(out, 0, Name::All, Ratio::Void),
+            night: Night::Begun,
+            end: End::Closed,
+        },
+        Err(stop) => Piece {
             used: 0,
             length: 0,
             night: Night::Begun,

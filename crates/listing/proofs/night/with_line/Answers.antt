@@ -5,8 +5,8 @@ use Rattle.listing.proofs.night.with_line.Goals as goal
 pub overflow_add-result : goal.overflow_add-result
 overflow_add-result c = record { fits = omega (arith, (night_real _ c.requires).few) }
 
-pub returns-in-Done : goal.returns-in-Done
-returns-in-Done c = with_line_lem _ c.requires (omega arith) _ _ c.with_breath.ensures _ c.in-Done.is
+pub returns-in-Some : goal.returns-in-Some
+returns-in-Some c = with_line_lem _ c.requires (omega arith) _ _ c.with_breath.ensures _ c.in-Some.is
 
-pub returns-in-Full : goal.returns-in-Full
-returns-in-Full c = absurd (never_full _ c.requires (omega arith) _ _ c.with_breath.ensures c.in-Full.is)
+pub returns-in-None : goal.returns-in-None
+returns-in-None c = absurd (never_full _ c.requires (omega arith) _ _ c.with_breath.ensures c.in-None.is)
