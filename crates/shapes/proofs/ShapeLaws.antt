@@ -2,33 +2,31 @@
 -- `line_shaped`: a printed line has the shape, and says its name and its word. `line_free`: there is no line feed in it but its last byte.
 -- `shape_line` and those before it: what the function that looks at a line answers.
 use mathlib.Core.Path.{◌≡◌, refl, sym, ap, ◌∙◌, subst}
-use mathlib.Core.Bool.{Bool, true, false, not, ◌&&◌, and-false, or-true, or-false}
+use mathlib.Core.Bool.{Bool, true, false, ◌&&◌, ◌||◌, and-false, or-true}
 use mathlib.Core.List.{List, [], ◌∷◌, ◌++◌}
 use Prim.Native.Nat.{ℕ, ◌/◌, ◌%◌, ◌^◌, ◌≤◌, ◌<◌}
 use native.Mathlib.Omega.{arith}
 use lib.Dec.{leb}
-use lib.ListN.{length, take, length-append}
-use lib.Seq.{length-take-le}
-use borrow.Author.Tests.{not-true, not-false}
+use lib.ListN.{length, length-append}
 use Rattle.std.specs.Prelude.{if◌then◌else◌, Option, Some, None}
 use Rattle.convergents.specs.Pairs.{Pair}
 use Rattle.breaths.specs.Ratios.{word_of, fraction_of}
 use Rattle.breaths.specs.declared.ratio.Ratio.{Ratio}
 use Rattle.breaths.specs.declared.ratio.Ratio.TheVariants.{Void, Word}
 use Rattle.text.specs.Numbers.{tab, hyphen, slash, point, decimal, hexadecimal}
-use Rattle.text.specs.Scan.{same, length_before, parted}
+use Rattle.text.specs.Scan.{same, parted}
 use Rattle.text.specs.Columns.{thousandths, percentage, fraction_text, fraction_and_percentage, columns}
 use Rattle.text.specs.Lines.{name_text}
 use Rattle.text.specs.declared.line.Name.{Name}
 use Rattle.text.specs.declared.line.Name.TheVariants.{Number, All}
-use Rattle.text.proofs.ScanLaws.{before_le}
-use Rattle.text.proofs.PartLaws.{behind, same_refl, same_is, Free, free_append, free_before, parted_whole, parted_none, parted_cut, parted_at, joined, joined_parted}
+use Rattle.text.proofs.PartLaws.{same_refl, Free, free_append, parted_whole, parted_cut, joined, joined_parted}
 use Rattle.text.proofs.LineLaws.{name_number, name_all}
-use Rattle.shapes.specs.Fields.{every, is_whole, in_two, is_fraction, is_decimal}
+use Rattle.std.specs.List.{list_all}
+use Rattle.shapes.specs.Fields.{is_whole, in_two, is_fraction, is_decimal}
 use Rattle.shapes.specs.Words.{is_word, word_in, word_read}
 use Rattle.shapes.specs.Shapes.{is_named, are_columns, shape_of_fields, shape_of}
 use Rattle.shapes.specs.declared.shape.Said.{Said}
-use Rattle.shapes.proofs.FieldLaws.{every_append, every_one, free_above, decimal_above, whole_decimal, fraction_shape, decimal_shape, fraction_none}
+use Rattle.shapes.proofs.FieldLaws.{every_append, every_one, free_above, decimal_above, whole_decimal, fraction_shape, decimal_shape, or_yes, or_no}
 use Rattle.shapes.proofs.WordLaws.{hexadecimal_above, word_shape, word_back}
 
 -- ---- what is printed behind a word
@@ -38,18 +36,18 @@ pub record Columned (s : List ℕ) : Type 0 where
   pub left : List ℕ
   pub right : List ℕ
   pub is : s ≡ left ++ tab ++ right
-  pub left_above : every (leb 45) left ≡ true
-  pub right_above : every (leb 45) right ≡ true
+  pub left_above : list_all (leb 45) left ≡ true
+  pub right_above : list_all (leb 45) right ≡ true
   pub shape : are_columns left right ≡ true
 
-fraction_above : (x : Pair) → every (leb 45) (fraction_text x) ≡ true
+fraction_above : (x : Pair) → list_all (leb 45) (fraction_text x) ≡ true
 unfolding fraction_text
 fraction_above x =
     every_append (leb 45) (decimal x.numerator ++ slash) (decimal x.denominator)
     (every_append (leb 45) (decimal x.numerator) slash (decimal_above 45 x.numerator (omega arith)) (every_one (leb 45) 47 refl))
     (decimal_above 45 x.denominator (omega arith))
 
-percentage_above : (t : ℕ) → every (leb 45) (percentage t) ≡ true
+percentage_above : (t : ℕ) → list_all (leb 45) (percentage t) ≡ true
 unfolding percentage
 percentage_above t =
     every_append (leb 45) (decimal (t / 10) ++ point) (decimal (t % 10))
@@ -84,11 +82,11 @@ columns_free r =
 
 -- what a line begins with
 pub record Named (a : List ℕ) : Type 0 where
-  pub above : every (leb 45) a ≡ true
+  pub above : list_all (leb 45) a ≡ true
   pub shape : is_named a ≡ true
 
 all_named : Named (97 ∷ 108 ∷ 108 ∷ [])
-unfolding every is_named
+unfolding is_named
 all_named = record { above = refl; shape = rw (← name_all All refl, same_refl (97 ∷ 108 ∷ 108 ∷ [])) (or-true (is_whole (97 ∷ 108 ∷ 108 ∷ []))) }
 
 number_named : (n : ℕ) → Named (decimal n)
@@ -147,99 +145,63 @@ module _ (name : Name) (r : Ratio) where
       (free_append 10 (hex ++ tab) (fraction_and_percentage r) (free_append 10 hex tab f.1 t) (columns_free r)))
 
 -- ---- the answers of the functions
-module _ (f : List ℕ) (t : Bool) (te : t ≡ is_whole f) where
-  pub named_whole : t ≡ true → true ≡ is_named f
-  unfolding is_named
-  named_whole e = rw (← te, e) refl
 
-  pub named_all : t ≡ false → (r : Bool) → r ≡ same f (97 ∷ 108 ∷ 108 ∷ []) → r ≡ is_named f
-  unfolding is_named
-  named_all e r h = h ∙ ap (same f) (name_all All refl) ∙ sym (rw (← te, e) refl)
+pub named_is : (f : List ℕ) → (is_whole f || same f (97 ∷ 108 ∷ 108 ∷ [])) ≡ is_named f
+unfolding is_named
+named_is f = ap (λ (t : List ℕ). is_whole f || same f t) (name_all All refl)
 
-hyphen_free : (x : List ℕ) → same x hyphen ≡ true → is_fraction x ≡ false
-hyphen_free x e = ap is_fraction (same_is x hyphen e) ∙ none
-  where
-    none : is_fraction hyphen ≡ false
-    none = sym (fraction_none hyphen 1 (sym (free_before 47 hyphen (refl, tt))) refl)
-
-module _ (x y : List ℕ) (t : Bool) (te : t ≡ same x hyphen) where
-  pub columns_hyphens : t ≡ true → (r : Bool) → r ≡ same y hyphen → r ≡ are_columns x y
+module _ (x y : List ℕ) {v : Bool} (is : v ≡ (same x hyphen && same y hyphen)) where
+  pub columns_hyphens : v ≡ true → v ≡ are_columns x y
   unfolding are_columns
-  columns_hyphens e r h =
-      let s : same x hyphen ≡ true = sym te ∙ e in
-      h ∙ sym (rw (s, hyphen_free x s) (or-false (same y hyphen)))
+  columns_hyphens e = or_yes is (is_fraction x && is_decimal y) e
 
-  module _ (e : t ≡ false) (u : Bool) (ue : u ≡ is_fraction x) where
-    pub columns_not : not u ≡ true → false ≡ are_columns x y
-    unfolding are_columns
-    columns_not n = rw (← te, e, ← ue, not-true u n) refl
-
-    pub columns_fraction : not u ≡ false → (r : Bool) → r ≡ is_decimal y → r ≡ are_columns x y
-    unfolding are_columns
-    columns_fraction n r h = h ∙ sym (rw (← te, e, ← ue, not-false u n) refl)
+  pub columns_numbers : {u : Bool} → v ≡ false → u ≡ (is_fraction x && is_decimal y) → u ≡ are_columns x y
+  unfolding are_columns
+  columns_numbers e f = or_no is e f
 
 -- ---- a line
 
-module _ (line : List ℕ) (i : ℕ) (ie : i ≡ length_before 9 line) where
-  pub shape_one : i ≡ length line → None ≡ shape_of line
+module _ (line : List ℕ) where
+  pub shape_one : parted 9 line ≡ line ∷ [] → None ≡ shape_of line
   unfolding shape_of shape_of_fields
-  shape_one e = sym (ap shape_of_fields (parted_none 9 line (sym ie ∙ e)))
+  shape_one e = sym (ap shape_of_fields e)
 
-  module _ (n : i ≡ length line → ⊥) (j : ℕ) (je : j ≡ length_before 9 (behind i line)) where
-    pub shape_two : j ≡ length (behind i line) → None ≡ shape_of line
+  module _ (name behind : List ℕ) (e : parted 9 line ≡ name ∷ parted 9 behind) where
+    pub shape_two : parted 9 behind ≡ behind ∷ [] → None ≡ shape_of line
     unfolding shape_of shape_of_fields in_two
-    shape_two e =
-        sym (ap shape_of_fields (parted_at 9 line i ie n ∙ ap (λ (l : List (List ℕ)). take i line ∷ l) (parted_none 9 (behind i line) (sym je ∙ e)))
-        ∙ rw (and-false (is_word (behind i line)), and-false (is_named (take i line))) refl)
+    shape_two f =
+        sym (ap shape_of_fields (e ∙ ap (λ (l : List (List ℕ)). name ∷ l) f)
+        ∙ rw (and-false (is_word behind), and-false (is_named name)) refl)
 
-    module _ (m : j ≡ length (behind i line) → ⊥) where
+    module _ (digits last : List ℕ) (f : parted 9 behind ≡ digits ∷ parted 9 last) where
       parts : shape_of line
-          ≡ (if is_named (take i line) && (is_word (take j (behind i line)) && in_two are_columns (parted 9 (behind j (behind i line))))
-          then Some (record { name = length (take i line); word = word_in (take j (behind i line)) }) else None)
+          ≡ (if is_named name && (is_word digits && in_two are_columns (parted 9 last))
+          then Some (record { name = length name; word = word_in digits }) else None)
       unfolding shape_of shape_of_fields
-      parts = ap shape_of_fields (parted_at 9 line i ie n ∙ ap (λ (l : List (List ℕ)). take i line ∷ l) (parted_at 9 (behind i line) j je m))
+      parts = ap shape_of_fields (e ∙ ap (λ (l : List (List ℕ)). name ∷ l) f)
 
-      module _ (t : Bool) (te : t ≡ is_named (take i line)) where
-        pub shape_name : not t ≡ true → None ≡ shape_of line
-        shape_name f = sym (parts ∙ rw (← te, not-true t f) refl)
+      pub shape_word : None ≡ word_read digits → None ≡ shape_of line
+      unfolding word_read
+      shape_word g = sym (go (is_word digits) refl)
+        where
+          go : (b : Bool) → is_word digits ≡ b → shape_of line ≡ None
+          go false h = parts ∙ rw (h, and-false (is_named name)) refl
+          go true h = let z : ◌≡◌ {A = Option ℕ} None (Some (word_in digits)) = g ∙ rw h refl in cc
 
-        module _ (g : not t ≡ false) (h : Option ℕ) (he : h ≡ word_read (take j (behind i line))) where
-          word_case : (b : Bool) → is_word (take j (behind i line)) ≡ b → h ≡ (if b then Some (word_in (take j (behind i line))) else None)
-          unfolding word_read
-          word_case b e = he ∙ rw e refl
+      module _ {w : ℕ} (g : Some w ≡ word_read digits) where
+        word_is : (is_word digits ≡ true) × (word_in digits ≡ w)
+        unfolding word_read
+        word_is = go (is_word digits) refl
+          where
+            go : (b : Bool) → is_word digits ≡ b → (is_word digits ≡ true) × (word_in digits ≡ w)
+            go true h = let z : ◌≡◌ {A = Option ℕ} (Some w) (Some (word_in digits)) = g ∙ rw h refl in (h, cc)
+            go false h = let z : ◌≡◌ {A = Option ℕ} (Some w) None = g ∙ rw h refl in cc
 
-          pub shape_word : h ≡ None → None ≡ shape_of line
-          shape_word o = sym (go (is_word (take j (behind i line))) refl)
-            where
-              go : (b : Bool) → is_word (take j (behind i line)) ≡ b → shape_of line ≡ None
-              go false e = parts ∙ rw (e, and-false (is_named (take i line))) refl
-              go true e = absurd (other_word (sym o ∙ word_case true e))
-                where
-                  other_word : {w : ℕ} → None ≡ Some w → ⊥
-                  other_word q = let z : ◌≡◌ {A = ℕ} 0 1 = cc in omega arith
+        pub shape_other : (is_named name && in_two are_columns (parted 9 last)) ≡ false → None ≡ shape_of line
+        shape_other h = sym (parts ∙ rw (word_is.0, h) refl)
 
-          module _ (w : ℕ) (we : h ≡ Some w) (u : Bool) (ue : u ≡ in_two are_columns (parted 9 (behind j (behind i line)))) where
-            word_is : (is_word (take j (behind i line)) ≡ true) × (word_in (take j (behind i line)) ≡ w)
-            word_is = go (is_word (take j (behind i line))) refl
-              where
-                go : (b : Bool) → is_word (take j (behind i line)) ≡ b → (is_word (take j (behind i line)) ≡ true) × (word_in (take j (behind i line)) ≡ w)
-                go true e = (e, word_inj (sym (word_case true e) ∙ we))
-                  where
-                    word_inj : {a b : ℕ} → Some a ≡ Some b → a ≡ b
-                    word_inj q = cc
-                go false e = absurd (word_other (sym we ∙ word_case false e))
-                  where
-                    word_other : {a : ℕ} → Some a ≡ None → ⊥
-                    word_other q = let z : ◌≡◌ {A = ℕ} 0 1 = cc in omega arith
-
-            pub shape_last : not u ≡ true → None ≡ shape_of line
-            shape_last f =
-                sym (parts ∙ rw (← ue, not-true u f, and-false (is_word (take j (behind i line))), and-false (is_named (take i line))) refl)
-
-            pub shape_line : not u ≡ false → Some (record { name = i; word = w }) ≡ shape_of line
-            shape_line f =
-                let l : length (take i line) ≡ i = length-take-le i line (omega (arith, before_le 9 line)) in
-                sym (parts ∙ rw (← te, not-false t g, word_is.0, ← ue, not-false u f, l, word_is.1) refl)
+        pub shape_line : (is_named name && in_two are_columns (parted 9 last)) ≡ true → Some (record { name = length name; word = w }) ≡ shape_of line
+        shape_line h = sym (parts ∙ rw (word_is.0, h, word_is.1) refl)
 
 -- ---- what a line that has the shape says
 

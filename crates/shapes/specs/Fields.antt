@@ -1,20 +1,16 @@
 -- The fields of a line: whole numbers, fractions and one-place decimals, each of any length. A field is a list of bytes.
-use Rattle.std.specs.Prelude.{ℕ, Bool, true, false, not, ◌&&◌, List, [], ◌∷◌, eqb, ltb, length}
+use Rattle.std.specs.Prelude.{ℕ, Bool, false, not, ◌&&◌, List, [], ◌∷◌, eqb, ltb, length}
+use Rattle.std.specs.List.{list_all}
 use Rattle.text.specs.Scan.{is_digit, parted}
-
--- Every byte passes a test.
-unfoldable pub every : (ℕ → Bool) → List ℕ → Bool
-every is [] = true
-every is (x ∷ xs) = is x && every is xs
 
 -- A whole number: digits, at least one, and no 0 (byte 48) in front of another.
 unfoldable pub is_whole : List ℕ → Bool
 is_whole [] = false
-is_whole (x ∷ xs) = (is_digit x && every is_digit xs) && not (eqb x 48 && ltb 0 (length xs))
+is_whole (x ∷ xs) = (is_digit x && list_all is_digit xs) && not (eqb x 48 && ltb 0 (length xs))
 
 -- One digit.
 unfoldable pub is_place : List ℕ → Bool
-is_place xs = eqb (length xs) 1 && every is_digit xs
+is_place xs = eqb (length xs) 1 && list_all is_digit xs
 
 -- Two parts, and no more, that go together so.
 unfoldable pub in_two : (List ℕ → List ℕ → Bool) → List (List ℕ) → Bool

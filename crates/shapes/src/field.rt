@@ -1,33 +1,32 @@
 // The fields of a line.
-ghost use Rattle.std.specs.Prelude.{◌≡◌};
-ghost use Rattle.text.specs.Scan.{is_digit};
-ghost use Rattle.shapes.specs.Fields.{every, is_whole, is_place, is_fraction, is_decimal};
+ghost use Rattle.std.specs.Prelude.{◌≡◌, [], ◌∷◌, MatchOption};
+ghost use Rattle.std.specs.List.{list_all};
+ghost use Rattle.text.specs.Scan.{is_digit, parted};
+ghost use Rattle.shapes.specs.Fields.{is_whole, is_place, is_fraction, is_decimal};
 
 use text::length_before;
 
-pub(crate) fn is_digit(b: u8) -> bool
-    ensures { result ≡ is_digit b }
+// What stands before the first b and what stands behind it; none where there is no b.
+pub(crate) fn cut(bytes: &[u8], b: u8) -> Option<(&[u8], &[u8])>
+    ensures { MatchOption result (parted b bytes.now ≡ bytes.now ∷ []) (λ p. parted b bytes.now ≡ p.0.now ∷ parted b p.1.now) }
 {
-    (b'0' <= b) & (b <= b'9')
+    let i = length_before(bytes, b);
+    if i == bytes.len() {
+        return None;
+    }
+    Some((&bytes[..i], &bytes[i + 1..]))
 }
 
 fn are_digits(bytes: &[u8]) -> bool
-    ensures { result ≡ every is_digit bytes.now }
+    ensures { result ≡ list_all is_digit bytes.now }
 {
-    let mut i = 0;
-    while i < bytes.len() {
-        if !is_digit(bytes[i]) {
-            return false;
-        }
-        i += 1;
-    }
-    true
+    bytes.iter().all(u8::is_ascii_digit)
 }
 
 pub(crate) fn is_whole(field: &[u8]) -> bool
     ensures { result ≡ is_whole field.now }
 {
-    if field.len() == 0 {
+    if field.is_empty() {
         return false;
     }
     if field[0] == b'0' {
@@ -39,35 +38,24 @@ pub(crate) fn is_whole(field: &[u8]) -> bool
 fn is_place(field: &[u8]) -> bool
     ensures { result ≡ is_place field.now }
 {
-    if field.len() != 1 {
-        return false;
-    }
-    are_digits(field)
+    field.len() == 1 && are_digits(field)
 }
 
 // No second slash need be looked for: a whole number has none.
 pub(crate) fn is_fraction(field: &[u8]) -> bool
     ensures { result ≡ is_fraction field.now }
 {
-    let i = length_before(field, b'/');
-    if i == field.len() {
-        return false;
+    match cut(field, b'/') {
+        Some((x, y)) => is_whole(x) && is_whole(y),
+        None => false,
     }
-    if !is_whole(&field[..i]) {
-        return false;
-    }
-    is_whole(&field[i + 1..])
 }
 
 pub(crate) fn is_decimal(field: &[u8]) -> bool
     ensures { result ≡ is_decimal field.now }
 {
-    let i = length_before(field, b'.');
-    if i == field.len() {
-        return false;
+    match cut(field, b'.') {
+        Some((x, y)) => is_whole(x) && is_place(y),
+        None => false,
     }
-    if !is_whole(&field[..i]) {
-        return false;
-    }
-    is_place(&field[i + 1..])
 }

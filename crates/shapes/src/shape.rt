@@ -4,9 +4,9 @@ ghost use Rattle.text.specs.Scan.{parted};
 ghost use Rattle.shapes.specs.Fields.{in_two};
 ghost use Rattle.shapes.specs.Shapes.{is_named, are_columns, shape_of};
 
-use crate::field::{is_decimal, is_fraction, is_whole};
+use crate::field::{cut, is_decimal, is_fraction, is_whole};
 use crate::word::read_word;
-use text::{is_same, length_before};
+use text::is_same;
 
 // How many bytes a line's name has, and its word.
 #[derive(Clone, Copy)]
@@ -18,37 +18,23 @@ pub struct Said {
 fn is_named(field: &[u8]) -> bool
     ensures { result ≡ is_named field.now }
 {
-    if is_whole(field) {
-        return true;
-    }
-    is_same(field, b"all")
+    is_whole(field) || is_same(field, b"all")
 }
 
 fn are_columns(x: &[u8], y: &[u8]) -> bool
     ensures { result ≡ are_columns x.now y.now }
 {
-    if is_same(x, b"-") {
-        return is_same(y, b"-");
-    }
-    if !is_fraction(x) {
-        return false;
-    }
-    is_decimal(y)
+    (is_same(x, b"-") && is_same(y, b"-")) || (is_fraction(x) && is_decimal(y))
 }
 
 // Whether these bytes are the two columns behind a word, and no more.
 fn are_last(bytes: &[u8]) -> bool
     ensures { result ≡ in_two are_columns (parted 9 bytes.now) }
 {
-    let i = length_before(bytes, b'\t');
-    if i == bytes.len() {
-        return false;
+    match cut(bytes, b'\t') {
+        Some((x, y)) => cut(y, b'\t').is_none() && are_columns(x, y),
+        None => false,
     }
-    let last = &bytes[i + 1..];
-    if length_before(last, b'\t') < last.len() {
-        return false;
-    }
-    are_columns(&bytes[..i], last)
 }
 
 // What a line says by its shape, its line feed not counted; none where it isn't so shaped. Each byte is
@@ -56,21 +42,15 @@ fn are_last(bytes: &[u8]) -> bool
 pub fn shape_of(line: &[u8]) -> Option<Said>
     ensures { result ≡ shape_of line.now }
 {
-    let i = length_before(line, b'\t');
-    if i == line.len() {
-        return None;
+    let (name, behind) = cut(line, b'\t')?;
+    let (digits, last) = cut(behind, b'\t')?;
+    let word = read_word(digits)?;
+    if is_named(name) && are_last(last) {
+        Some(Said {
+            name: name.len(),
+            word,
+        })
+    } else {
+        None
     }
-    let rest = &line[i + 1..];
-    let j = length_before(rest, b'\t');
-    if j == rest.len() {
-        return None;
-    }
-    if !is_named(&line[..i]) {
-        return None;
-    }
-    let w = read_word(&rest[..j])?;
-    if !are_last(&rest[j + 1..]) {
-        return None;
-    }
-    Some(Said { name: i, word: w })
 }

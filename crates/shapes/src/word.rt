@@ -1,23 +1,15 @@
 // A word as eight hexadecimal digits.
-ghost use Rattle.std.specs.Prelude.{◌≡◌, true};
-ghost use Rattle.shapes.specs.Words.{is_hex_digit, hex_value, word_read};
+ghost use Rattle.std.specs.Prelude.{◌≡◌};
+ghost use Rattle.shapes.specs.Words.{hex_read, word_read};
 
-use crate::field::is_digit;
-
-fn is_hex_digit(b: u8) -> bool
-    ensures { result ≡ is_hex_digit b }
+// The value of a hexadecimal digit; of any other byte none.
+fn hex_value(b: u8) -> Option<u64>
+    ensures { result ≡ hex_read b }
 {
-    is_digit(b) | ((b'a' <= b) & (b <= b'f'))
-}
-
-fn hex_value(b: u8) -> u64
-    requires { is_hex_digit b ≡ true }
-    ensures { result ≡ hex_value b }
-{
-    if is_digit(b) {
-        (b - b'0') as u64
-    } else {
-        (b - 87) as u64
+    match b {
+        b'0'..=b'9' => Some((b - b'0') as u64),
+        b'a'..=b'f' => Some((b - b'a' + 10) as u64),
+        _ => None,
     }
 }
 
@@ -29,14 +21,8 @@ pub fn read_word(field: &[u8]) -> Option<u64>
         return None;
     }
     let mut value: u64 = 0;
-    let mut i = 0;
-    while i < field.len() {
-        let b = field[i];
-        if !is_hex_digit(b) {
-            return None;
-        }
-        value = value * 16 + hex_value(b);
-        i += 1;
+    for b in field {
+        value = value * 16 + hex_value(*b)?;
     }
     Some(value)
 }

@@ -1,16 +1,12 @@
-use Rattle.shapes.proofs.FieldLaws.{fraction_none, fraction_not, fraction_is}
-use lib.Seq.{length-take-le}
-use mathlib.Core.Path.{sym}
+use mathlib.Core.Path.{◌∙◌}
+use Rattle.shapes.proofs.FieldLaws.{fraction_none, fraction_is, and_yes, and_no}
 use Rattle.shapes.proofs.field.is_fraction.Goals as goal
 
-pub returns-then-i-field : goal.returns-then-i-field
-returns-then-i-field c = fraction_none _ _ c.length_before-i.ensures.defined c.if-i-field.true
+pub returns-then-is_whole : goal.returns-then-is_whole
+returns-then-is_whole c = and_yes c.is_whole.ensures c.if-is_whole.true c.is_whole-then-is_whole.ensures ∙ fraction_is _ _ _ c.in-Some.ensures
 
-pub slice_bounds-is_whole-end : goal.slice_bounds-is_whole-end
-slice_bounds-is_whole-end c = sym (length-take-le _ _ c.length_before-i.ensures.within)
+pub returns-else-is_whole : goal.returns-else-is_whole
+returns-else-is_whole c = and_no c.is_whole.ensures _ c.if-is_whole.false ∙ fraction_is _ _ _ c.in-Some.ensures
 
-pub returns-then-not-is_whole : goal.returns-then-not-is_whole
-returns-then-not-is_whole c = fraction_not _ _ c.length_before-i.ensures.defined c.if-i-field.false _ c.is_whole.ensures c.if-not-is_whole.true-raw
-
-pub returns : goal.returns
-returns c = fraction_is _ _ c.length_before-i.ensures.defined c.if-i-field.false _ c.is_whole.ensures c.if-not-is_whole.false-raw _ c.is_whole-2.ensures
+pub returns-in-None : goal.returns-in-None
+returns-in-None c = fraction_none _ c.in-None.ensures

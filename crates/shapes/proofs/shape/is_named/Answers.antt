@@ -1,8 +1,10 @@
-use Rattle.shapes.proofs.ShapeLaws.{named_whole, named_all}
+use mathlib.Core.Path.{◌∙◌}
+use Rattle.shapes.proofs.FieldLaws.{or_yes, or_no}
+use Rattle.shapes.proofs.ShapeLaws.{named_is}
 use Rattle.shapes.proofs.shape.is_named.Goals as goal
 
 pub returns-then-is_whole : goal.returns-then-is_whole
-returns-then-is_whole c = named_whole _ _ c.is_whole.ensures c.if-is_whole.true
+returns-then-is_whole c = or_yes c.is_whole.ensures _ c.if-is_whole.true ∙ named_is _
 
-pub returns : goal.returns
-returns c = named_all _ _ c.is_whole.ensures c.if-is_whole.false _ c.is_same.ensures
+pub returns-else-is_whole : goal.returns-else-is_whole
+returns-else-is_whole c = or_no c.is_whole.ensures c.if-is_whole.false c.is_same.ensures ∙ named_is _

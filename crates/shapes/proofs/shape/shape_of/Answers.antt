@@ -1,28 +1,32 @@
-use Rattle.shapes.proofs.ShapeLaws.{shape_one, shape_two, shape_name, shape_word, shape_last, shape_line}
-use lib.Seq.{length-take-le}
-use mathlib.Core.Path.{sym, ◌∙◌}
+use mathlib.Core.Path.{◌≡◌, sym, ◌∙◌}
+use Rattle.shapes.specs.Fields.{in_two}
+use Rattle.shapes.specs.Shapes.{is_named, are_columns}
+use Rattle.shapes.proofs.FieldLaws.{and_yes, and_no}
+use Rattle.shapes.proofs.ShapeLaws.{shape_one, shape_two, shape_word, shape_other, shape_line}
 use Rattle.shapes.proofs.shape.shape_of.Goals as goal
+use Rattle.text.specs.Scan.{parted}
+use mathlib.Core.Bool.{◌&&◌, false}
+use Rattle.shapes.proofs.shape.shape_of.Goals.{else-is_named-via-then-is_named+else-are_last, else-is_named-via-else-is_named}
 
-pub returns-then-i-line : goal.returns-then-i-line
-returns-then-i-line c = shape_one _ _ c.length_before-i.ensures.defined c.if-i-line.true
+pub returns-in_err-name : goal.returns-in_err-name
+returns-in_err-name c = c.from_residual.ensures ∙ shape_one _ c.in_err-name.ensures
 
-pub returns-then-j-rest : goal.returns-then-j-rest
-returns-then-j-rest c = shape_two _ _ c.length_before-i.ensures.defined c.if-i-line.false _ c.length_before-j.ensures.defined c.if-j-rest.true
+pub returns-in_err-digits : goal.returns-in_err-digits
+returns-in_err-digits c = c.from_residual-in_err-digits.ensures ∙ shape_two _ _ _ c.in_ok-name.ensures c.in_err-digits.ensures
 
-pub slice_bounds-is_named-end : goal.slice_bounds-is_named-end
-slice_bounds-is_named-end c = sym (length-take-le _ _ c.length_before-i.ensures.within)
+pub returns-in_err-word : goal.returns-in_err-word
+returns-in_err-word c = c.from_residual-in_err-word.ensures ∙ shape_word _ _ _ c.in_ok-name.ensures _ _ c.in_ok-digits.ensures c.in_err-word.ensures
 
-pub returns-then-not-is_named : goal.returns-then-not-is_named
-returns-then-not-is_named c = shape_name _ _ c.length_before-i.ensures.defined c.if-i-line.false _ c.length_before-j.ensures.defined c.if-j-rest.false _ c.is_named.ensures c.if-not-is_named.true-raw
+pub returns-then-are_last : goal.returns-then-are_last
+returns-then-are_last c =
+    shape_line _ _ _ c.in_ok-name.ensures _ _ c.in_ok-digits.ensures c.in_ok-word.ensures
+    (sym (and_yes c.is_named.ensures c.if-is_named.true c.if-are_last.ensures))
 
-pub slice_bounds-read_word-end : goal.slice_bounds-read_word-end
-slice_bounds-read_word-end c = sym (length-take-le _ _ c.length_before-j.ensures.within)
-
-pub returns-in_err-w : goal.returns-in_err-w
-returns-in_err-w c = c.from_residual.ensures ∙ shape_word _ _ c.length_before-i.ensures.defined c.if-i-line.false _ c.length_before-j.ensures.defined c.if-j-rest.false _ c.is_named.ensures c.if-not-is_named.false-raw _ c.read_word.ensures c.in_err-w.was
-
-pub returns-then-not-are_last : goal.returns-then-not-are_last
-returns-then-not-are_last c = shape_last _ _ c.length_before-i.ensures.defined c.if-i-line.false _ c.length_before-j.ensures.defined c.if-j-rest.false _ c.is_named.ensures c.if-not-is_named.false-raw _ c.read_word.ensures _ c.in_ok-w.was _ c.are_last.ensures c.if-not-are_last.true-raw
-
-pub returns : goal.returns
-returns c = shape_line _ _ c.length_before-i.ensures.defined c.if-i-line.false _ c.length_before-j.ensures.defined c.if-j-rest.false _ c.is_named.ensures c.if-not-is_named.false-raw _ c.read_word.ensures _ c.in_ok-w.was _ c.are_last.ensures c.if-not-are_last.false-raw
+pub returns-else-is_named : goal.returns-else-is_named
+returns-else-is_named c =
+    let other = λ (h : false ≡ (is_named c.in_ok-name.name.now && in_two are_columns (parted 9 c.in_ok-digits.last.now))).
+    shape_other _ _ _ c.in_ok-name.ensures _ _ c.in_ok-digits.ensures c.in_ok-word.ensures (sym h) in
+    elim c.else-is_named.branch [
+      | else-is_named-via-then-is_named+else-are_last w ↦ other (and_yes c.is_named.ensures w.if-is_named.true w.if-are_last.ensures)
+      | else-is_named-via-else-is_named w ↦ other (sym w.if-is_named.false ∙ and_no c.is_named.ensures _ w.if-is_named.false)
+    ]

@@ -1,15 +1,18 @@
 use native.Mathlib.Omega.{arith}
-use Rattle.shapes.proofs.WordLaws.{value_digit, value_letter}
+use Rattle.shapes.proofs.WordLaws.{read_digit, read_letter, read_other}
 use Rattle.shapes.proofs.word.hex_value.Goals as goal
 
-pub overflow_sub-result : goal.overflow_sub-result
-overflow_sub-result c = (value_digit _ _ c.is_digit.ensures c.if-is_digit.true).0
+pub returns-in-48-to-57 : goal.returns-in-48-to-57
+returns-in-48-to-57 c = read_digit _ (omega arith) (omega arith)
 
-pub overflow_sub-result-else-is_digit : goal.overflow_sub-result-else-is_digit
-overflow_sub-result-else-is_digit c = let r = value_letter _ _ c.is_digit.ensures c.requires c.if-is_digit.false in omega (arith, r.0)
+pub returns-in-97-to-102 : goal.returns-in-97-to-102
+returns-in-97-to-102 c = read_letter _ (omega arith) (omega arith)
 
-pub returns-then-is_digit : goal.returns-then-is_digit
-returns-then-is_digit c = (value_digit _ _ c.is_digit.ensures c.if-is_digit.true).2
+pub returns-in_default : goal.returns-in_default
+returns-in_default c = read_other _ (λ l k. omega arith) (λ l k. omega arith)
 
-pub returns-else-is_digit : goal.returns-else-is_digit
-returns-else-is_digit c = (value_letter _ _ c.is_digit.ensures c.requires c.if-is_digit.false).2
+pub returns-in_default-2 : goal.returns-in_default-2
+returns-in_default-2 c = read_other _ (λ l k. omega arith) (λ l k. omega arith)
+
+pub returns-in_default-3 : goal.returns-in_default-3
+returns-in_default-3 c = read_other _ (λ l k. omega arith) (λ l k. omega arith)
