@@ -1,113 +1,91 @@
-// Requests on vectors: lengths, at most 16 each, then the words of each vector, the result's last.
-ghost use Rattle.std.specs.Prelude.{◌≤◌};
+// Requests on vectors: lengths, then the words of each vector, those of the list that is lent last.
+use crate::old;
+use crate::show::{Word, done};
+use slash::{Format, Stop};
+use std::io;
+use std::io::Write;
 
-use crate::show;
-use slash::{Completion, Format};
-
-// What the check of the operands and the operation told, and the words that it stored.
-fn show_stored(checked: Completion, stored: Completion, words: &[u64]) {
-    show::told(checked);
-    show::text(b" ");
-    show::told(stored);
-    show_words(words);
+// What the check of the operands and the operation told, and the words that it left in the list.
+fn show_stored<W: Write>(
+    out: &mut W,
+    checked: Result<(), Stop>,
+    stored: Result<(), Stop>,
+    words: &[u64],
+) -> io::Result<()> {
+    write!(out, "{} {}", done(checked), done(stored))?;
+    show_words(out, words)
 }
 
-pub(crate) fn show_words(words: &[u64]) {
-    let mut i = 0;
-    while i < words.len() {
-        show::text(b" ");
-        show::hexadecimal(words[i]);
-        i += 1;
+pub(crate) fn show_words<W: Write>(out: &mut W, words: &[u64]) -> io::Result<()> {
+    for w in words {
+        write!(out, " {}", Word(*w))?;
     }
+    Ok(())
 }
 
-pub(crate) fn copy(from: &[u64], to: &mut [u64]) {
-    let mut i = 0;
-    while i < to.len() {
-        if from.len() <= i {
-            return;
-        }
-        to[i] = from[i];
-        i += 1;
-    }
-}
-
-pub(crate) fn at_most_16(length: u64) -> usize
-    ensures { result ≤ 16 }
-{
-    if length <= 16 { length as usize } else { 16 }
+// The first words, so many of them, and those behind.
+pub(crate) fn parted(words: &mut [u64], count: u64) -> (&mut [u64], &mut [u64]) {
+    let at = words.len().min(count as usize);
+    words.split_at_mut(at)
 }
 
 // x KIND K CODE LEFT RIGHT OUT WORDS
-pub(crate) fn binary_each(f: Format, code: u64, left: u64, right: u64, out: u64, all: &[u64]) {
-    if all.len() < 64 {
-        return;
-    }
-    let middle = 7 + at_most_16(left);
-    let end = middle + at_most_16(right);
-    let n = at_most_16(out);
-    let mut result = [0u64; 16];
-    let lent = &mut result[..n];
-    copy(&all[end..], lent);
-    let lefts = &all[7..middle];
-    let rights = &all[middle..end];
+pub(crate) fn binary_each<W: Write>(
+    out: &mut W,
+    f: Format,
+    code: u64,
+    left: u64,
+    right: u64,
+    words: &mut [u64],
+) -> io::Result<()> {
+    let (lefts, others) = parted(words, left);
+    let (rights, lent) = parted(others, right);
     let checked = vectors::check_pairs(f, lefts, rights);
     let stored = arithmetic::binary_each(f, code, lefts, rights, lent);
-    show_stored(checked, stored, lent);
+    show_stored(out, old::done(checked), old::done(stored), lent)
 }
 
 // y KIND K CODE OPERAND OUT WORDS
-pub(crate) fn unary_each(f: Format, code: u64, operand: u64, out: u64, all: &[u64]) {
-    if all.len() < 64 {
-        return;
-    }
-    let end = 6 + at_most_16(operand);
-    let n = at_most_16(out);
-    let mut result = [0u64; 16];
-    let lent = &mut result[..n];
-    copy(&all[end..], lent);
-    let operands = &all[6..end];
+pub(crate) fn unary_each<W: Write>(
+    out: &mut W,
+    f: Format,
+    code: u64,
+    operand: u64,
+    words: &mut [u64],
+) -> io::Result<()> {
+    let (operands, lent) = parted(words, operand);
     let checked = vectors::check_words(f, operands);
     let stored = unary::unary_each(f, code, operands, lent);
-    show_stored(checked, stored, lent);
+    show_stored(out, old::done(checked), old::done(stored), lent)
 }
 
 // z KIND K TO_KIND TO_K OPERAND OUT WORDS
-pub(crate) fn convert_each(f: Format, to: Format, operand: u64, out: u64, all: &[u64]) {
-    if all.len() < 64 {
-        return;
-    }
-    let end = 7 + at_most_16(operand);
-    let n = at_most_16(out);
-    let mut result = [0u64; 16];
-    let lent = &mut result[..n];
-    copy(&all[end..], lent);
-    let operands = &all[7..end];
+pub(crate) fn convert_each<W: Write>(
+    out: &mut W,
+    f: Format,
+    to: Format,
+    operand: u64,
+    words: &mut [u64],
+) -> io::Result<()> {
+    let (operands, lent) = parted(words, operand);
     let checked = vectors::check_words(f, operands);
     let stored = conversion::convert_each(f, to, operands, lent);
-    show_stored(checked, stored, lent);
+    show_stored(out, old::done(checked), old::done(stored), lent)
 }
 
-fn each_by_way(f: Format, way: u64, operand: &[u64], out: &mut [u64]) -> Completion {
-    if way == 1 {
-        twisting::twist_each(f, operand, out)
-    } else {
-        twisting::untwist_each(f, operand, out)
-    }
-}
-
-// e KIND K WAY OPERAND OUT WORDS
-pub(crate) fn rearranged_each(f: Format, way: u64, operand: u64, out: u64, all: &[u64]) {
-    if all.len() < 64 {
-        return;
-    }
-    let end = 6 + at_most_16(operand);
-    let n = at_most_16(out);
-    let mut result = [0u64; 16];
-    let lent = &mut result[..n];
-    copy(&all[end..], lent);
-    let operands = &all[6..end];
+// e KIND K WAY OPERAND OUT WORDS: WAY 1 twists words, and any other untwists them.
+pub(crate) fn rearranged_each<W: Write>(
+    out: &mut W,
+    f: Format,
+    way: u64,
+    operand: u64,
+    words: &mut [u64],
+) -> io::Result<()> {
+    let (operands, lent) = parted(words, operand);
     let checked = vectors::check_words(f, operands);
-    let stored = each_by_way(f, way, operands, lent);
-    show_stored(checked, stored, lent);
+    let stored = match way {
+        1 => twisting::twist_each(f, operands, lent),
+        _ => twisting::untwist_each(f, operands, lent),
+    };
+    show_stored(out, old::done(checked), old::done(stored), lent)
 }

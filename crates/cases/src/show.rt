@@ -1,70 +1,57 @@
-// Writes the pieces of an answer to standard output.
-use slash::{Completion, Stop};
+// How the pieces of an answer are written.
+use slash::Stop;
+use std::fmt;
+use std::fmt::Display;
 
-// The number of standard output.
-const STDOUT_FILENO: i32 = 1;
+// A word, in hexadecimal.
+#[derive(Drop)]
+pub(crate) struct Word(pub(crate) u64);
 
-pub(crate) fn text(bytes: &[u8]) {
-    io::write_all(STDOUT_FILENO, bytes);
-}
-
-pub(crate) fn number(n: u64) {
-    io::print_decimal(STDOUT_FILENO, n);
-}
-
-pub(crate) fn hexadecimal(n: u64) {
-    io::print_hex(STDOUT_FILENO, n, 1);
-}
-
-// r/s
-pub(crate) fn pair(r: u64, s: u64) {
-    number(r);
-    text(b"/");
-    number(s);
-}
-
-// A space, and 1 for an approximate value or a negative one.
-pub(crate) fn bit(set: bool) {
-    if set {
-        text(b" 1");
-    } else {
-        text(b" 0");
+impl Display for Word {
+    fn fmt<W: fmt::Write>(&self, f: &mut fmt::Formatter<W>) -> fmt::Result {
+        let w = self.0;
+        write!(f, "{w:x}")
     }
 }
 
-// A sign, and a space.
-pub(crate) fn sign(negative: bool) {
-    if negative {
-        text(b"- ");
-    } else {
-        text(b"+ ");
+// A stop in full.
+#[derive(Drop)]
+pub(crate) struct Full(pub(crate) Stop);
+
+impl Display for Full {
+    fn fmt<W: fmt::Write>(&self, f: &mut fmt::Formatter<W>) -> fmt::Result {
+        let stop = self.0;
+        write!(f, "stop {} {}", stop.number, stop.place)
     }
 }
 
-pub(crate) fn stop(s: Stop) {
-    text(b"stop ");
-    number(s.number);
-    text(b" ");
-    number(s.place);
-}
+// What a call told: its answer, or a stop in full.
+#[derive(Drop)]
+pub(crate) struct Told<T>(pub(crate) Result<T, Stop>);
 
-// What a call tells that makes nothing.
-pub(crate) fn told(t: Completion) {
-    match t {
-        Completion::Done => text(b"done"),
-        Completion::Stopped(s) => stop(s),
+impl<T: Display> Display for Told<T> {
+    fn fmt<W: fmt::Write>(&self, f: &mut fmt::Formatter<W>) -> fmt::Result {
+        match &self.0 {
+            Ok(answer) => write!(f, "{answer}"),
+            Err(stop) => write!(f, "{}", Full(*stop)),
+        }
     }
 }
 
-// A space before each of many answers but the first.
-pub(crate) fn separator(first: bool) {
-    if !first {
-        text(b" ");
-    }
+// What a call told that makes nothing.
+pub(crate) fn done(told: Result<(), Stop>) -> Told<&'static str> {
+    Told(told.map(|()| "done"))
 }
 
-// A stop as one of many answers.
-pub(crate) fn short_stop(s: Stop) {
-    text(b"!");
-    number(s.number);
+// What a call told as one of many answers: a stop by its number.
+#[derive(Drop)]
+pub(crate) struct Brief<T>(pub(crate) Result<T, Stop>);
+
+impl<T: Display> Display for Brief<T> {
+    fn fmt<W: fmt::Write>(&self, f: &mut fmt::Formatter<W>) -> fmt::Result {
+        match &self.0 {
+            Ok(answer) => write!(f, "{answer}"),
+            Err(stop) => write!(f, "!{}", stop.number),
+        }
+    }
 }

@@ -1,96 +1,89 @@
 // Requests on formats, words and rounding.
-use crate::operations::show_word;
-use crate::show;
-use slash::{Answer, Checked, Fields, Format, Made, Number, Parts, Reading, Rounding, Value};
-
-// An answer that is one number, in decimal, or a stop in full.
-pub(crate) fn show_number(a: Answer) {
-    match a {
-        Answer::Done(n) => show::number(n),
-        Answer::Stopped(s) => show::stop(s),
-    }
-}
+use crate::old;
+use crate::show::{Full, Told, Word, done};
+use slash::{Fields, Format, Number, Parts, Value};
+use std::io::Write;
+use std::{fmt, io};
 
 // f KIND K: what the check of the format tells, then the width and the largest parts.
-pub(crate) fn format(kind: u64, k: u64) {
-    show::told(Format { kind: kind, k: k }.check());
-    show::text(b" ");
-    match Format::make(kind, k) {
-        Made::Done(f) => {
-            show_number(f.width());
-            show::text(b" ");
-            show_number(f.largest_numerator());
-            show::text(b" ");
-            show_number(f.largest_denominator());
-        }
-        Made::Stopped(s) => show::stop(s),
+pub(crate) fn format<W: Write>(out: &mut W, kind: u64, k: u64) -> io::Result<()> {
+    write!(out, "{} ", done(old::done(Format { kind, k }.check())))?;
+    match old::made(Format::make(kind, k)) {
+        Ok(f) => write!(
+            out,
+            "{} {} {}",
+            Told(old::number(f.width())),
+            Told(old::number(f.largest_numerator())),
+            Told(old::number(f.largest_denominator()))
+        ),
+        Err(stop) => write!(out, "{}", Full(stop)),
     }
 }
 
-fn show_value(v: Value) {
-    match v {
-        Value::Fraction(p) => {
-            show::sign(p.negative);
-            show::pair(p.numerator, p.denominator);
-        }
-        Value::Zero(s) => {
-            show::sign(s);
-            show::text(b"zero");
-        }
-        Value::Infinity(s) => {
-            show::sign(s);
-            show::text(b"infinity");
-        }
-        Value::NotANumber => show::text(b"nan"),
-    }
+fn sign(negative: bool) -> &'static str {
+    if negative { "-" } else { "+" }
 }
 
-// A space, and a field of a word.
-fn show_field(field: u64) {
-    show::text(b" ");
-    show::number(field);
+// What a word says: its value, and 1 where it is approximate.
+#[derive(Drop)]
+struct Said(Number);
+
+impl fmt::Display for Said {
+    fn fmt<W: fmt::Write>(&self, f: &mut fmt::Formatter<W>) -> fmt::Result {
+        match self.0.value {
+            Value::Fraction(p) => write!(
+                f,
+                "{} {}/{}",
+                sign(p.negative),
+                p.numerator,
+                p.denominator
+            ),
+            Value::Zero(negative) => write!(f, "{} zero", sign(negative)),
+            Value::Infinity(negative) => write!(f, "{} infinity", sign(negative)),
+            Value::NotANumber => write!(f, "nan"),
+        }?;
+        write!(f, " {}", u8::from(self.0.approximate))
+    }
 }
 
 // The fields of a word, the highest first.
-fn show_fields(fields: Fields) {
+fn show_fields<W: Write>(out: &mut W, fields: Fields) -> io::Result<()> {
     match fields {
-        Fields::Fixed(x) => {
-            show::bit(x.negative);
-            show_field(x.numerator);
-            show::bit(x.approximate);
-            show_field(x.denominator);
-        }
-        Fields::Floating(x) => {
-            show::bit(x.negative);
-            show::bit(x.approximate);
-            show_field(x.position);
-            show_field(x.field);
-        }
+        Fields::Fixed(x) => write!(
+            out,
+            " {} {} {} {}",
+            u8::from(x.negative),
+            x.numerator,
+            u8::from(x.approximate),
+            x.denominator
+        ),
+        Fields::Floating(x) => write!(
+            out,
+            " {} {} {} {}",
+            u8::from(x.negative),
+            u8::from(x.approximate),
+            x.position,
+            x.field
+        ),
     }
 }
 
 // r KIND K WORD: what a word says, and its fields.
-pub(crate) fn read(f: Format, w: u64) {
-    match slash::read(f, w) {
-        Reading::Done(x) => {
-            let v = x.value;
-            show_value(v);
-            show::bit(x.approximate);
-        }
-        Reading::Stopped(s) => show::stop(s),
-    }
-    if let Checked::Good(good) = slash::check(f, w) {
-        show_fields(good.fields());
+pub(crate) fn read<W: Write>(out: &mut W, f: Format, w: u64) -> io::Result<()> {
+    write!(out, "{}", Told(old::reading(slash::read(f, w)).map(Said)))?;
+    match old::checked(slash::check(f, w)) {
+        Ok(good) => show_fields(out, good.fields()),
+        Err(_) => Ok(()),
     }
 }
 
 // CLASS 0 is a fraction, 1 zero, 2 infinity, and any other not-a-number.
-pub(crate) fn value(class: u64, negative: bool, n: u64, d: u64) -> Value {
+pub(crate) fn value(class: u64, negative: bool, numerator: u64, denominator: u64) -> Value {
     match class {
         0 => Value::Fraction(Parts {
-            negative: negative,
-            numerator: n,
-            denominator: d,
+            negative,
+            numerator,
+            denominator,
         }),
         1 => Value::Zero(negative),
         2 => Value::Infinity(negative),
@@ -99,21 +92,26 @@ pub(crate) fn value(class: u64, negative: bool, n: u64, d: u64) -> Value {
 }
 
 // w KIND K CLASS SIGN N D MARK: the canonical word, in hexadecimal.
-pub(crate) fn write(f: Format, v: Value, approximate: bool) {
-    let x = Number {
-        value: v,
-        approximate: approximate,
-    };
-    show_word(slash::write(f, x));
+pub(crate) fn write<W: Write>(
+    out: &mut W,
+    f: Format,
+    value: Value,
+    approximate: bool,
+) -> io::Result<()> {
+    let x = Number { value, approximate };
+    write!(out, "{}", Told(old::word(slash::write(f, x)).map(Word)))
 }
 
 // n KIND K N D: a ratio rounded.
-pub(crate) fn round(f: Format, n: u64, d: u64) {
-    match slash::round(f, n, d) {
-        Rounding::Done(r) => {
-            show::pair(r.numerator, r.denominator);
-            show::bit(r.approximate);
-        }
-        Rounding::Stopped(s) => show::stop(s),
+pub(crate) fn round<W: Write>(out: &mut W, f: Format, n: u64, d: u64) -> io::Result<()> {
+    match old::rounding(slash::round(f, n, d)) {
+        Ok(r) => write!(
+            out,
+            "{}/{} {}",
+            r.numerator,
+            r.denominator,
+            u8::from(r.approximate)
+        ),
+        Err(stop) => write!(out, "{}", Full(stop)),
     }
 }
