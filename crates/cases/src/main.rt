@@ -4,7 +4,6 @@
 
 #![tactic(auto)]
 
-mod old;
 mod operations;
 mod places;
 mod records;

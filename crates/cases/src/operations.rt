@@ -1,6 +1,5 @@
 // Requests on two words of one format, and on conversion. A request with a capital letter is about
 // every word of a small format.
-use crate::old;
 use crate::show::{Brief, Told, Word};
 use arithmetic::Order;
 use slash::{Format, Stop};
@@ -10,7 +9,7 @@ use std::io::Write;
 
 // How many words a format of at most 16 bits has; 0 for any other.
 fn count(f: Format) -> u64 {
-    match old::number(f.width()) {
+    match f.width() {
         Ok(width) if width <= 16 => 1 << width,
         _ => 0,
     }
@@ -44,7 +43,7 @@ pub(crate) fn binary<W: Write>(
     write!(
         out,
         "{}",
-        Told(old::word(arithmetic::binary(f, code, left, right)).map(Word))
+        Told(arithmetic::binary(f, code, left, right).map(Word))
     )
 }
 
@@ -54,7 +53,7 @@ pub(crate) fn binary_all<W: Write>(out: &mut W, f: Format, code: u64, left: u64)
         out,
         f,
         " ",
-        |right| Brief(old::word(arithmetic::binary(f, code, left, right)).map(Word)),
+        |right| Brief(arithmetic::binary(f, code, left, right).map(Word)),
     )
 }
 
@@ -72,7 +71,7 @@ pub(crate) fn compare<W: Write>(out: &mut W, f: Format, left: u64, right: u64) -
     write!(
         out,
         "{}",
-        Told(old::order(arithmetic::compare(f, left, right)).map(order_name))
+        Told(arithmetic::compare(f, left, right).map(order_name))
     )
 }
 
@@ -92,17 +91,13 @@ pub(crate) fn compare_all<W: Write>(out: &mut W, f: Format, left: u64) -> io::Re
         out,
         f,
         "",
-        |right| order_mark(old::order(arithmetic::compare(f, left, right))),
+        |right| order_mark(arithmetic::compare(f, left, right)),
     )
 }
 
 // v KIND K TO_KIND TO_K WORD
 pub(crate) fn convert<W: Write>(out: &mut W, f: Format, to: Format, w: u64) -> io::Result<()> {
-    write!(
-        out,
-        "{}",
-        Told(old::word(conversion::convert(f, to, w)).map(Word))
-    )
+    write!(out, "{}", Told(conversion::convert(f, to, w).map(Word)))
 }
 
 // V KIND K TO_KIND TO_K
@@ -111,6 +106,6 @@ pub(crate) fn convert_all<W: Write>(out: &mut W, f: Format, to: Format) -> io::R
         out,
         f,
         " ",
-        |w| Brief(old::word(conversion::convert(f, to, w)).map(Word)),
+        |w| Brief(conversion::convert(f, to, w).map(Word)),
     )
 }

@@ -1,5 +1,5 @@
-// Requests on vectors: lengths, then the words of each vector, those of the list that is lent last.
-use crate::old;
+// Requests on vectors: lengths, then the words of each vector. The list that is lent is what is left,
+// so that its length isn't needed.
 use crate::show::{Word, done};
 use slash::{Format, Stop};
 use std::io;
@@ -42,7 +42,24 @@ pub(crate) fn binary_each<W: Write>(
     let (rights, lent) = parted(others, right);
     let checked = vectors::check_pairs(f, lefts, rights);
     let stored = arithmetic::binary_each(f, code, lefts, rights, lent);
-    show_stored(out, old::done(checked), old::done(stored), lent)
+    show_stored(out, checked, stored, lent)
+}
+
+// What an operation on one vector comes to: the vector, so many of the words, and the list behind it
+// are handed to it.
+fn each<W: Write, F: FnOnce(&[u64], &mut [u64]) -> Result<(), Stop>>(
+    out: &mut W,
+    f: Format,
+    operand: u64,
+    words: &mut [u64],
+    operation: F,
+) -> io::Result<()>
+    requires { F.IsAlwaysCallable operation }
+{
+    let (operands, lent) = parted(words, operand);
+    let checked = vectors::check_words(f, operands);
+    let stored = operation(operands, lent);
+    show_stored(out, checked, stored, lent)
 }
 
 // y KIND K CODE OPERAND OUT WORDS
@@ -53,10 +70,13 @@ pub(crate) fn unary_each<W: Write>(
     operand: u64,
     words: &mut [u64],
 ) -> io::Result<()> {
-    let (operands, lent) = parted(words, operand);
-    let checked = vectors::check_words(f, operands);
-    let stored = unary::unary_each(f, code, operands, lent);
-    show_stored(out, old::done(checked), old::done(stored), lent)
+    each(
+        out,
+        f,
+        operand,
+        words,
+        |from, to| unary::unary_each(f, code, from, to),
+    )
 }
 
 // z KIND K TO_KIND TO_K OPERAND OUT WORDS
@@ -67,10 +87,13 @@ pub(crate) fn convert_each<W: Write>(
     operand: u64,
     words: &mut [u64],
 ) -> io::Result<()> {
-    let (operands, lent) = parted(words, operand);
-    let checked = vectors::check_words(f, operands);
-    let stored = conversion::convert_each(f, to, operands, lent);
-    show_stored(out, old::done(checked), old::done(stored), lent)
+    each(
+        out,
+        f,
+        operand,
+        words,
+        |from, lent| conversion::convert_each(f, to, from, lent),
+    )
 }
 
 // e KIND K WAY OPERAND OUT WORDS: WAY 1 twists words, and any other untwists them.
@@ -81,11 +104,20 @@ pub(crate) fn rearranged_each<W: Write>(
     operand: u64,
     words: &mut [u64],
 ) -> io::Result<()> {
-    let (operands, lent) = parted(words, operand);
-    let checked = vectors::check_words(f, operands);
-    let stored = match way {
-        1 => twisting::twist_each(f, operands, lent),
-        _ => twisting::untwist_each(f, operands, lent),
-    };
-    show_stored(out, old::done(checked), old::done(stored), lent)
+    match way {
+        1 => each(
+            out,
+            f,
+            operand,
+            words,
+            |from, to| twisting::twist_each(f, from, to),
+        ),
+        _ => each(
+            out,
+            f,
+            operand,
+            words,
+            |from, to| twisting::untwist_each(f, from, to),
+        ),
+    }
 }

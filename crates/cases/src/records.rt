@@ -1,6 +1,5 @@
 // Requests on records: how many bytes there are, and how many places, then the bytes, and the words
 // at the places.
-use crate::old;
 use crate::places::{parted, show_words};
 use crate::show::done;
 use std::alloc::Global;
@@ -17,6 +16,6 @@ pub(crate) fn imported<W: Write>(
     let (bytes, lent) = parted(numbers, length);
     let bytes: Vec<u8> = bytes.iter().map(|n| (*n % 256) as u8).collect(alloc)?;
     let told = importing::import_records(&bytes, lent);
-    write!(out, "{}", done(old::done(told)))?;
+    write!(out, "{}", done(told))?;
     show_words(out, lent)
 }

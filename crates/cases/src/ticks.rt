@@ -1,5 +1,4 @@
 // Requests on breaths and sums at a rate. A tick mark is the low 32 bits of its number.
-use crate::old;
 use crate::show::{Full, Word};
 use breaths::{Breath, Rate, Ratio, Sums};
 use std::io;
@@ -31,8 +30,8 @@ pub(crate) fn breath<W: Write>(
     peak: u64,
     next: u64,
 ) -> io::Result<()> {
-    let stored = old::word(breaths::stored_word(ticks, mark(onset), mark(peak), mark(next)));
-    match old::rate(Rate::make(ticks)) {
+    let stored = breaths::stored_word(ticks, mark(onset), mark(peak), mark(next));
+    match Rate::make(ticks) {
         Ok(rate) => {
             let b = Breath::between(mark(onset), mark(peak), mark(next));
             let ratio = b.ratio(rate);
@@ -61,8 +60,8 @@ pub(crate) fn added<W: Write>(
     next: u64,
 ) -> io::Result<()> {
     let b = Breath::between(mark(onset), mark(peak), mark(next));
-    match old::rate(Rate::make(ticks)) {
-        Ok(rate) => match old::added(sums.with_breath(b, rate)) {
+    match Rate::make(ticks) {
+        Ok(rate) => match sums.with_breath(b, rate) {
             Some(s) => write!(out, "{} {}", s.inspiration, s.whole),
             None => write!(out, "full"),
         },

@@ -1,5 +1,4 @@
 // Requests on formats, words and rounding.
-use crate::old;
 use crate::show::{Full, Told, Word, done};
 use slash::{Fields, Format, Number, Parts, Value};
 use std::io::Write;
@@ -7,14 +6,14 @@ use std::{fmt, io};
 
 // f KIND K: what the check of the format tells, then the width and the largest parts.
 pub(crate) fn format<W: Write>(out: &mut W, kind: u64, k: u64) -> io::Result<()> {
-    write!(out, "{} ", done(old::done(Format { kind, k }.check())))?;
-    match old::made(Format::make(kind, k)) {
+    write!(out, "{} ", done(Format { kind, k }.check()))?;
+    match Format::make(kind, k) {
         Ok(f) => write!(
             out,
             "{} {} {}",
-            Told(old::number(f.width())),
-            Told(old::number(f.largest_numerator())),
-            Told(old::number(f.largest_denominator()))
+            Told(f.width()),
+            Told(f.largest_numerator()),
+            Told(f.largest_denominator())
         ),
         Err(stop) => write!(out, "{}", Full(stop)),
     }
@@ -70,8 +69,8 @@ fn show_fields<W: Write>(out: &mut W, fields: Fields) -> io::Result<()> {
 
 // r KIND K WORD: what a word says, and its fields.
 pub(crate) fn read<W: Write>(out: &mut W, f: Format, w: u64) -> io::Result<()> {
-    write!(out, "{}", Told(old::reading(slash::read(f, w)).map(Said)))?;
-    match old::checked(slash::check(f, w)) {
+    write!(out, "{}", Told(slash::read(f, w).map(Said)))?;
+    match slash::check(f, w) {
         Ok(good) => show_fields(out, good.fields()),
         Err(_) => Ok(()),
     }
@@ -99,12 +98,12 @@ pub(crate) fn write<W: Write>(
     approximate: bool,
 ) -> io::Result<()> {
     let x = Number { value, approximate };
-    write!(out, "{}", Told(old::word(slash::write(f, x)).map(Word)))
+    write!(out, "{}", Told(slash::write(f, x).map(Word)))
 }
 
 // n KIND K N D: a ratio rounded.
 pub(crate) fn round<W: Write>(out: &mut W, f: Format, n: u64, d: u64) -> io::Result<()> {
-    match old::rounding(slash::round(f, n, d)) {
+    match slash::round(f, n, d) {
         Ok(r) => write!(
             out,
             "{}/{} {}",
