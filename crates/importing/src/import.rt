@@ -16,12 +16,11 @@ use slash::Stop;
 const RECORD: usize = 12;
 
 // The first stop of the records.
-fn check_records(records: &[u8], count: usize) -> Result<(), Stop>
-    requires { 12 * count ≡ length records.now }
-    ensures { result ≡ checks check_record 0 (first_records count records.now) }
+fn check_records(records: &[u8]) -> Result<(), Stop>
+    ensures { result ≡ checks check_record 0 (records_in records.now) }
 {
-    for i in 0..count {
-        if let Err(s) = read_record(&records[RECORD * i..]) {
+    for (i, record) in records.chunks_exact(RECORD).enumerate() {
+        if let Err(s) = read_record(record) {
             return Err(Stop {
                 number: s.number,
                 place: i as u64,
@@ -53,7 +52,7 @@ pub fn import_records(records: &[u8], words: &mut [u64]) -> Result<(), Stop>
     if records.len() / RECORD != words.len() {
         return Err(Stop::plain(Stop::LENGTH));
     }
-    check_records(records, words.len())?;
+    check_records(records)?;
     store_words(records, words);
     Ok(())
 }

@@ -1,16 +1,27 @@
-use mathlib.Core.Path.{◌∙◌}
+use mathlib.Core.Path.{refl, ◌∙◌}
 use native.Mathlib.Omega.{arith}
-use Rattle.vectors.proofs.EachLaws.{check_next, check_stop, check_end}
-use Rattle.importing.specs.Steps.{check_record}
 use Rattle.importing.proofs.RecordLaws.{read_good, read_stop}
-use Rattle.importing.proofs.ImportLaws.{records_long, record_at}
+use Rattle.importing.proofs.ImportLaws.{records_stop, records_good, records_end}
 use Rattle.importing.proofs.import.check_records.Goals as goal
 
+pub loop-i-init : goal.loop-i-init
+loop-i-init c = rw (c.into_iter-i-iterator.ensures.into_iter_gives, c.enumerate-i-items.ensures.source, c.enumerate-i-items.ensures.count, c.chunks_exact.ensures.rest) (c.chunks_exact.ensures.size, refl)
+
+pub read_record-requires : goal.read_record-requires
+read_record-requires c = let step = c.in-Some.ensures.steps in omega (arith, step.0.1.1, c.loop-i.invariant.0)
+
 pub returns-in-Err : goal.returns-in-Err
-returns-in-Err c = check_stop check_record _ _ _ (record_at _ _ _ c.loop-i-test.true) (read_stop _ _ c.read_record.ensures c.in-Err.is) ∙ c.loop-i.invariant
+returns-in-Err c =
+    let step = c.in-Some.ensures.steps in
+    records_stop _ _ step.0.1.0 (step.0.1.1 ∙ c.loop-i.invariant.0) step.1 (read_stop _ _ c.read_record.ensures c.in-Err.is) ∙ c.loop-i.invariant.1
 
 pub loop-i-preserved : goal.loop-i-preserved
-loop-i-preserved c = check_next check_record _ _ _ (record_at _ _ _ c.loop-i-test.true) (read_good _ _ c.read_record.ensures c.in_default.is) ∙ c.loop-i.invariant
+loop-i-preserved c =
+    let step = c.in-Some.ensures.steps in
+    (
+      step.0.0 ∙ c.loop-i.invariant.0,
+      records_good _ _ step.0.1.0 (step.0.1.1 ∙ c.loop-i.invariant.0) step.1 step.2 (read_good _ _ c.read_record.ensures c.in_default.is) ∙ c.loop-i.invariant.1,
+    )
 
 pub returns : goal.returns
-returns c = check_end check_record _ _ (omega (arith, records_long c.args.count c.args.records.now, c.loop-i-test.false)) ∙ c.loop-i.invariant
+returns c = let step = c.in-None.ensures.steps in records_end _ _ (omega (arith, step.0.1.0, c.loop-i.invariant.0)) ∙ c.loop-i.invariant.1
