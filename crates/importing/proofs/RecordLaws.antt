@@ -16,6 +16,7 @@ use borrow.Author.Tests.{lt-ltb, le-leb, leb-true, ltb-true, eqb-true, eq-eqb, n
 use Rattle.convergents.specs.Pairs.{differs}
 use Rattle.convergents.specs.Rounding.{round}
 use Rattle.std.specs.Prelude.{Ok, Err}
+use Rattle.std.specs.Int.{w32, from_le_bytes}
 use Rattle.slash.specs.Answers.{Outcome, stop, done, ◌then◌, WhenDone}
 use Rattle.slash.specs.Steps.{or_zero}
 use Rattle.slash.specs.Formats.{holds}
@@ -37,11 +38,15 @@ use Rattle.importing.proofs.FloatLaws.{bits_back, some_denominator}
 
 -- ---- bytes
 
+four_bytes : (a b c d : ℕ) → from_le_bytes w32 (a ∷ b ∷ c ∷ d ∷ []) ≡ lowest_first (a ∷ b ∷ c ∷ d ∷ [])
+unfolding lowest_first
+four_bytes a b c d = omega arith
+
 -- the answer of `number_at`
 pub number_is : (s : List ℕ) (at n : ℕ) → at + 4 ≤ length s
-    → n ≡ lowest_first (get_or s at 0 ∷ get_or s (at + 1) 0 ∷ get_or s (at + 2) 0 ∷ get_or s (at + 3) 0 ∷ []) → n ≡ number_at s at
+    → n ≡ from_le_bytes w32 (get_or s at 0 ∷ get_or s (at + 1) 0 ∷ get_or s (at + 2) 0 ∷ get_or s (at + 3) 0 ∷ []) → n ≡ number_at s at
 unfolding number_at
-number_is s at n h e = e ∙ ap lowest_first (sym four)
+number_is s at n h e = e ∙ four_bytes _ _ _ _ ∙ ap lowest_first (sym four)
   where
     next : (i : ℕ) → drop (at + i + 1) s ≡ drop (at + (i + 1)) s
     next i = let e : at + i + 1 ≡ at + (i + 1) = omega arith in ap (λ (j : ℕ). drop j s) e

@@ -1,9 +1,9 @@
 // A record: what it holds, how it is read, and its word.
-ghost use Rattle.std.specs.Prelude.{◌≡◌, [], ◌∷◌, ◌+◌, ◌≤◌, length};
+ghost use Rattle.std.specs.Prelude.{◌≡◌, ◌+◌, ◌≤◌, length};
 ghost use Rattle.slash.specs.Answers.{done, ◌then◌};
 ghost use Rattle.slash.specs.Steps.{or_zero};
 ghost use Rattle.importing.specs.Floats.{float_ratio};
-ghost use Rattle.importing.specs.Records.{lowest_first, number_at, record_of, content_of, content_ratio, record_word};
+ghost use Rattle.importing.specs.Records.{number_at, record_of, content_of, content_ratio, record_word};
 ghost use Rattle.importing.specs.Steps.{bits_of, imported_content, InOrder, KeepsRules, rounded_ratio};
 
 use crate::float::ratio_of;
@@ -48,18 +48,12 @@ impl Imported {
     }
 }
 
-// Four bytes, lowest first.
-fn number_of(a: u8, b: u8, c: u8, d: u8) -> u32
-    ensures { result ≡ lowest_first (a ∷ b ∷ c ∷ d ∷ []) }
-{
-    a as u32 + 256 * (b as u32 + 256 * (c as u32 + 256 * (d as u32)))
-}
-
+// The number of four bytes, lowest first.
 fn number_at(bytes: &[u8], at: usize) -> u32
     requires { at + 4 ≤ length bytes.now }
     ensures { result ≡ number_at bytes.now at }
 {
-    number_of(bytes[at], bytes[at + 1], bytes[at + 2], bytes[at + 3])
+    u32::from_le_bytes([bytes[at], bytes[at + 1], bytes[at + 2], bytes[at + 3]])
 }
 
 // Kind 1. Numbers without the sign are in the order of their bits, and all other bits are beyond them: so
