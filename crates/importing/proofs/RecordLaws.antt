@@ -3,7 +3,7 @@
 -- `content_exact`: N over D of every good record is the ratio of its numbers' IEEE values. `record_rounded`: demand 2, and the mark.
 -- `record_best`: demand 3.
 use mathlib.Core.Path.{◌≡◌, refl, sym, ap, ap₂, ◌∙◌, subst}
-use mathlib.Core.Bool.{Bool, true, false, ◌&&◌}
+use mathlib.Core.Bool.{Bool, true, false, ◌&&◌, true≢false}
 use mathlib.Core.List.{List, [], ◌∷◌}
 use Prim.Native.Nat.{ℕ, ◌+◌, ◌*◌, ◌≤◌, ◌<◌}
 use native.Mathlib.Omega.{arith}
@@ -56,7 +56,7 @@ number_is s at n h e = e ∙ four_bytes _ _ _ _ ∙ ap lowest_first (sym four)
 
 -- ---- the tests
 
-timings_held : (a b : ℕ) → are_timings a b ≡ true → InOrder a b
+pub timings_held : (a b : ℕ) → are_timings a b ≡ true → InOrder a b
 unfolding are_timings is_timing
 timings_held a b e =
     let t = and_parts _ _ e in
@@ -74,6 +74,28 @@ timings_hold a b o =
     let h : a < beyond = lt_of_le_of_lt o.order o.below in
     rw (le-leb least a o.from, lt-ltb a beyond h, le-leb least b l, lt-ltb b beyond o.below, le-leb a b o.order) refl
 
+pub not_timings : (a b : ℕ) → are_timings a b ≡ false → InOrder a b → ⊥
+not_timings a b e o = true≢false (sym (timings_hold a b o) ∙ e)
+
+-- what isn't true is false
+untrue : (t : Bool) → (t ≡ true → ⊥) → t ≡ false
+untrue true n = absurd (n refl)
+untrue false n = refl
+
+-- the answer of `are_timings`
+pub tests_are : (a b : ℕ) → (leb least a && leb a b && ltb b beyond) ≡ are_timings a b
+tests_are a b = go (are_timings a b) refl
+  where
+    go : (t : Bool) → are_timings a b ≡ t → (leb least a && leb a b && ltb b beyond) ≡ are_timings a b
+    go true e = let o = timings_held a b e in rw (e, le-leb least a o.from, le-leb a b o.order, lt-ltb b beyond o.below) refl
+    go false e = untrue _ (λ t. not_timings a b e (tests_held t)) ∙ sym e
+      where
+        tests_held : (leb least a && leb a b && ltb b beyond) ≡ true → InOrder a b
+        tests_held t =
+            let u = and_parts (leb least a && leb a b) (ltb b beyond) t in
+            let v = and_parts (leb least a) (leb a b) u.0 in
+            record { from = leb-true _ _ v.0; order = leb-true _ _ v.1; below = ltb-true _ _ u.1 }
+
 ratio_held : (a : ℕ) → is_ratio a ≡ true → InOrder a one
 unfolding is_ratio
 ratio_held a e =
@@ -83,11 +105,6 @@ ratio_held a e =
 ratio_hold : (a : ℕ) → InOrder a one → is_ratio a ≡ true
 unfolding is_ratio
 ratio_hold a o = rw (le-leb least a o.from, le-leb a one o.order) refl
-
--- what isn't true is false
-untrue : (t : Bool) → (t ≡ true → ⊥) → t ≡ false
-untrue true n = absurd (n refl)
-untrue false n = refl
 
 module _ (a b : ℕ) where
   -- kind 1

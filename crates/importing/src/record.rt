@@ -2,7 +2,7 @@
 ghost use Rattle.std.specs.Prelude.{◌≡◌, ◌+◌, ◌≤◌, length};
 ghost use Rattle.slash.specs.Answers.{done, ◌then◌};
 ghost use Rattle.slash.specs.Steps.{or_zero};
-ghost use Rattle.importing.specs.Floats.{float_ratio};
+ghost use Rattle.importing.specs.Floats.{are_timings, float_ratio};
 ghost use Rattle.importing.specs.Records.{number_at, record_of, content_of, content_ratio, record_word};
 ghost use Rattle.importing.specs.Steps.{bits_of, imported_content, InOrder, KeepsRules, rounded_ratio};
 
@@ -56,18 +56,20 @@ fn number_at(bytes: &[u8], at: usize) -> u32
     u32::from_le_bytes([bytes[at], bytes[at + 1], bytes[at + 2], bytes[at + 3]])
 }
 
-// Kind 1. Numbers without the sign are in the order of their bits, and all other bits are beyond them: so
-// the tests are on the bits, and no float is made of bits that break the rules.
+// Whether two numbers run from 2^-10 to below 2^10, the first no larger than the second. Numbers without
+// the sign are in the order of their bits, and all other bits are beyond them: so the tests are on the
+// bits, and no float is made of bits that break the rules.
+fn are_timings(first: u32, second: u32) -> bool
+    ensures { result ≡ are_timings first second }
+{
+    (float::LEAST <= first) & (first <= second) & (second < float::BEYOND)
+}
+
+// Kind 1.
 fn read_timings(first: u32, second: u32) -> Result<Imported, Stop>
     ensures { (result then λ i. done (imported_content i)) ≡ content_of (record { kind = 1; first = first; second = second }) }
 {
-    if first < float::LEAST {
-        return Err(Stop::plain(stop::NUMBER));
-    }
-    if second < first {
-        return Err(Stop::plain(stop::NUMBER));
-    }
-    if float::BEYOND <= second {
+    if !are_timings(first, second) {
         return Err(Stop::plain(stop::NUMBER));
     }
     let inspiration = f32::from_bits(first);
@@ -75,21 +77,14 @@ fn read_timings(first: u32, second: u32) -> Result<Imported, Stop>
     Ok(Imported::Timings(Timings { inspiration, whole }))
 }
 
-// Kind 2.
+// Kind 2. The ratio is in order with 1.
 fn read_ratio(first: u32, second: u32) -> Result<Imported, Stop>
     ensures { (result then λ i. done (imported_content i)) ≡ content_of (record { kind = 2; first = first; second = second }) }
 {
-    if first < float::LEAST {
+    if !are_timings(first, float::ONE) || second != 0 {
         return Err(Stop::plain(stop::NUMBER));
     }
-    if float::ONE < first {
-        return Err(Stop::plain(stop::NUMBER));
-    }
-    if second != 0 {
-        return Err(Stop::plain(stop::NUMBER));
-    }
-    let number = f32::from_bits(first);
-    Ok(Imported::Ratio(number))
+    Ok(Imported::Ratio(f32::from_bits(first)))
 }
 
 // The record that some bytes begin with.

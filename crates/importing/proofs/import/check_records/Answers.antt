@@ -17,8 +17,7 @@ returns-in-Err c =
 
 pub loop-i-preserved : goal.loop-i-preserved
 loop-i-preserved c =
-    let step = c.in-Some.ensures.steps in
-    (
+    let step = c.in-Some.ensures.steps in (
       step.0.0 ∙ c.loop-i.invariant.0,
       records_good _ _ step.0.1.0 (step.0.1.1 ∙ c.loop-i.invariant.0) step.1 step.2 (read_good _ _ c.read_record.ensures c.in_default.is) ∙ c.loop-i.invariant.1,
     )

@@ -1,20 +1,20 @@
-use native.Mathlib.Omega.{arith}
+use mathlib.Core.Path.{sym, ◌∙◌}
+use mathlib.Core.Logic.{⊎_elim}
+use native.Mathlib.Nat.{lt_of_le_of_lt}
 use Rattle.slash.proofs.AnswerLaws.{plain_stop}
 use Rattle.importing.proofs.FloatLaws.{nan_free}
-use Rattle.importing.proofs.RecordLaws.{not_given, given_float}
+use Rattle.importing.proofs.RecordLaws.{timings_held, not_timings, not_given, given_float}
 use Rattle.importing.proofs.record.read_ratio.Goals as goal
 
-pub returns-then-first-lt-LEAST : goal.returns-then-first-lt-LEAST
-returns-then-first-lt-LEAST c = plain_stop _ 18 c.plain.ensures (not_given _ _ (λ o z. omega (arith, o.from, c.if-first-lt-LEAST.true)))
+pub returns-then-not-are_timings : goal.returns-then-not-are_timings
+returns-then-not-are_timings c =
+    plain_stop _ 18 c.plain.ensures
+    (not_given _ _ (λ o z. ⊎_elim (λ e. not_timings _ _ (sym c.are_timings.ensures ∙ e) o) (λ e. e.1 z) c.then-not-are_timings.either))
 
-pub returns-then-first-gt-ONE : goal.returns-then-first-gt-ONE
-returns-then-first-gt-ONE c = plain_stop _ 18 c.plain-then-first-gt-ONE.ensures (not_given _ _ (λ o z. omega (arith, o.order, c.if-first-gt-ONE.true)))
-
-pub returns-then-second-ne0 : goal.returns-then-second-ne0
-returns-then-second-ne0 c = plain_stop _ 18 c.plain-then-second-ne0.ensures (not_given _ _ (λ o z. c.if-second-ne0.true z))
-
-pub float_from_bits-number : goal.float_from_bits-number
-float_from_bits-number c = nan_free _ (omega (arith, c.if-first-gt-ONE.false))
+pub float_from_bits-result : goal.float_from_bits-result
+float_from_bits-result c =
+    let o = timings_held _ _ (sym c.are_timings.ensures ∙ c.if-not-are_timings.false) in
+    nan_free _ (lt_of_le_of_lt o.order o.below)
 
 pub returns : goal.returns
-returns c = given_float _ _ (record { from = c.if-first-lt-LEAST.false; order = c.if-first-gt-ONE.false; below = omega arith }) c.if-second-ne0.false
+returns c = given_float _ _ (timings_held _ _ (sym c.are_timings.ensures ∙ c.if-not-are_timings.false)) c.if-second-ne0.false
