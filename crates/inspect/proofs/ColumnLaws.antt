@@ -15,11 +15,10 @@ use Rattle.slash.proofs.AnswerLaws.{if_case}
 use Rattle.slash.specs.declared.number.Parts.{Parts}
 use Rattle.text.specs.Numbers.{tab, slash, point, decimal, hexadecimal}
 use Rattle.text.specs.Columns.{distance, thousandths, fraction_text}
-use Rattle.text.specs.Steps.{Room}
 use Rattle.text.proofs.ColumnLaws.{NearestEven, nearest_even, thousandths_up, thousandths_down}
 use Rattle.text.proofs.NumberLaws.{decimal_length, hexadecimal_length}
 use Rattle.inspect.specs.Columns.{sign_text, mark_text, last_digits, six_places, size_text}
-use Rattle.inspect.specs.Steps.{column, stored_columns}
+use Rattle.inspect.specs.Steps.{Room, column, stored_columns}
 use Rattle.inspect.proofs.StoreLaws.{last_hex, last_length}
 
 -- ---- a column
@@ -29,7 +28,7 @@ unfolding column
 column_length t = omega arith
 
 -- room for it is room for the tab that it begins with
-pub column_room : {o : List ℕ} {k : ℕ} (t : List ℕ) → Room o k (column t) → Room o k (9 ∷ [])
+pub column_room : {o : List ℕ} (t : List ℕ) → Room o (column t) → Room o (9 ∷ [])
 column_room t h = record { room = omega (arith, h.room, column_length t) }
 
 -- ---- sign, fraction, mark

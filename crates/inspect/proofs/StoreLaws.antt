@@ -1,35 +1,42 @@
--- Text and numbers stored. Assumes nothing.
--- `text_stored`: what copying a text comes to. `digits_decimal`: the digits that `io::decimal` makes are the number in decimal. `last_hex`: digits in base 16 are the hexadecimal ones.
+-- Text and numbers added to what waits to be written. Assumes nothing.
+-- `added`: one text added behind another is both added. `digits_decimal`: the digits that `io::decimal` makes are the number in decimal. `last_hex`: digits in base 16 are the hexadecimal ones.
 use mathlib.Core.Path.{◌≡◌, refl, sym, ap, ◌∙◌, subst}
-use mathlib.Core.List.{List, [], ◌∷◌, ◌++◌, append_assoc}
+use mathlib.Core.List.{List, [], ◌∷◌, ◌++◌, append_assoc, append-nil}
 use Prim.Native.Nat.{ℕ, zero, suc, ◌+◌, ◌-◌, ◌/◌, ◌%◌, ◌^◌, ◌≤◌, ◌<◌}
 use native.Mathlib.Omega.{arith}
 use native.Mathlib.Nat.{mod-lt, one-le-pow, pow-suc}
 use lib.ListN.{length, take, drop, length-append}
-use lib.Seq.{take_at, drop-drop, sets-eq}
+use lib.Seq.{take_at}
 use borrow.Author.Tests.{lt-ltb, le-ltb}
 use Rattle.io.specs.Digits.{hex_digit_ascii, last_digits as digits, IsDigitCount}
 use Rattle.text.specs.Lines.{refused_line}
 use Rattle.text.specs.Numbers.{decimal, hex_digit, hexadecimal}
-use Rattle.text.specs.Steps.{Room}
-use Rattle.text.specs.Stores.{put, Stored, at_start}
+use Rattle.text.specs.Stores.{at_start}
 use Rattle.text.proofs.NumberLaws.{decimal_small, decimal_more}
 use Rattle.inspect.specs.Columns.{last_digits}
+use Rattle.inspect.specs.Steps.{Room, Added}
 
--- ---- a text
+-- ---- one piece behind the other
 
--- what copying it over as many places of a list, from a place on, comes to
-pub text_stored : (o t ys : List ℕ) (at : ℕ) → Room o at t → ys ≡ t → Stored o at t (take at o ++ (ys ++ drop (at + length t - at) (drop at o))) (at + length t)
-unfolding put
-text_stored o t ys at h e =
-    let count : at + length t - at ≡ length t = omega arith in
-    record {
-      bytes =
-          ap (λ (k : ℕ). take at o ++ (ys ++ drop k (drop at o))) count ∙ ap (λ (u : List ℕ). take at o ++ (ys ++ u)) (drop-drop (length t) at o)
-          ∙ ap (λ (u : List ℕ). take at o ++ (u ++ drop (at + length t) o)) e
-          ∙ sym (append_assoc (take at o) t (drop (at + length t) o)) ∙ sym (sets-eq t o at h.room);
-      next = refl;
-    }
+module _ {o : List ℕ} where
+  pub room_as : {t u : List ℕ} → t ≡ u → Room o t → Room o u
+  room_as e h = record { room = omega (arith, h.room, ap length e) }
+
+  pub room_first : {t : List ℕ} (u : List ℕ) → Room o (t ++ u) → Room o t
+  room_first {t} u h = record { room = omega (arith, h.room, length-append t u) }
+
+  pub added_none : Added o [] o
+  added_none = record { bytes = sym (append-nil o) }
+
+  module _ {t o' : List ℕ} where
+    pub added_as : {u : List ℕ} → t ≡ u → Added o t o' → Added o u o'
+    added_as e a = record { bytes = a.bytes ∙ ap (λ (v : List ℕ). o ++ v) e }
+
+    pub added : {u o'' : List ℕ} → Added o t o' → Added o' u o'' → Added o (t ++ u) o''
+    added {u} a b = record { bytes = b.bytes ∙ ap (λ (v : List ℕ). v ++ u) a.bytes ∙ append_assoc o t u }
+
+    pub room_rest : {u : List ℕ} → Room o (t ++ u) → Added o t o' → Room o' u
+    room_rest {u} h a = record { room = omega (arith, h.room, ap length a.bytes, length-append o t, length-append t u) }
 
 -- ---- a number in decimal
 

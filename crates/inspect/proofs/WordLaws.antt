@@ -8,17 +8,16 @@ use mathlib.Core.List.{List, ◌++◌}
 use Prim.Native.Nat.{ℕ, ◌+◌, ◌/◌, ◌^◌, ◌≤◌, ◌<◌}
 use native.Mathlib.Omega.{arith}
 use lib.ListN.{length, length-append}
-use Rattle.slash.specs.Answers.{Outcome, stop, done, ◌then◌, answer_outcome}
+use Rattle.std.specs.Prelude.{Ok, Err, IsOk}
+use Rattle.slash.specs.Answers.{Outcome, stop, done, ◌then◌}
 use Rattle.slash.specs.Formats.{known, of_known, width_of}
 use Rattle.slash.specs.Numbers.{parts_of, pair_of}
-use Rattle.slash.specs.Reading.{read_word, reading_outcome}
-use Rattle.slash.specs.declared.answer.Answer.{Answer}
+use Rattle.slash.specs.Reading.{read_word}
 use Rattle.slash.specs.declared.answer.Stop.{Stop}
 use Rattle.slash.specs.declared.format.Format.{Format}
 use Rattle.slash.specs.declared.number.Number.{Number}
 use Rattle.slash.specs.declared.number.Parts.{Parts}
-use Rattle.slash.specs.declared.reading.Reading.{Reading}
-use Rattle.slash.proofs.AnswerLaws.{done_inj, no_stop}
+use Rattle.slash.proofs.AnswerLaws.{done_inj}
 use Rattle.slash.proofs.FormatLaws.{of_known_lem, width_range, largest_below}
 use Rattle.slash.proofs.ReadingLaws.{read_stops}
 use Rattle.slash.proofs.CanonicalLaws.{held_most, read_known, read_held}
@@ -34,19 +33,22 @@ use Rattle.inspect.proofs.QuotientLaws.{quotients_few, quotients_length}
 
 -- ---- how many digits
 
-module _ (f : Format) (h : known f ≡ true) (a : Answer) (e : answer_outcome a ≡ of_known f (width_of f)) where
-  pub width_known : {s : Stop} → a ≡ Answer.Stopped s → ⊥
-  width_known g = no_stop (sym (ap answer_outcome g) ∙ e ∙ sym (of_known_lem f (width_of f) h))
+module _ (f : Format) (h : known f ≡ true) {r : Outcome ℕ} (e : r ≡ of_known f (width_of f)) where
+  width_done : r ≡ Ok (width_of f)
+  width_done = e ∙ sym (of_known_lem f (width_of f) h)
 
-  width_is : {n : ℕ} → a ≡ Answer.Done n → n ≡ width_of f
-  width_is g = done_inj (sym (ap answer_outcome g) ∙ e ∙ sym (of_known_lem f (width_of f) h))
+  pub width_known : IsOk r
+  width_known = subst (λ (o : Outcome ℕ). IsOk o) (sym width_done) refl
 
-  pub width_small : (n : ℕ) → a ≡ Answer.Done n → n < 65
-  width_small n g = omega (arith, width_is g, width_range f h)
+  width_is : {n : ℕ} → r ≡ Ok n → n ≡ width_of f
+  width_is g = done_inj (sym g ∙ width_done)
 
-  pub digit_count_lem : (n : ℕ) → a ≡ Answer.Done n → (n + 3) / 4 ≡ digit_count f
+  pub width_small : {n : ℕ} → r ≡ Ok n → n < 65
+  width_small g = omega (arith, width_is g, width_range f h)
+
+  pub digit_count_lem : {n : ℕ} → r ≡ Ok n → (n + 3) / 4 ≡ digit_count f
   unfolding digit_count
-  digit_count_lem n g = ap (λ (m : ℕ). (m + 3) / 4) (width_is g)
+  digit_count_lem g = ap (λ (m : ℕ). (m + 3) / 4) (width_is g)
 
 -- ---- a word that was read
 
@@ -108,17 +110,17 @@ module _ (f : Format) (w : ℕ) (x : Number) (r : read_word f w ≡ done x) wher
 
 -- ---- the text, by what reading a word comes to
 
-module _ (f : Format) (line w : ℕ) (a : Reading) (h : reading_outcome a ≡ read_word f w) where
-  pub inspected_stop : (s : Stop) → a ≡ Reading.Stopped s → refused_line s.number line ≡ inspected_text f line w
+module _ (f : Format) (line w : ℕ) {r : Outcome Number} (h : r ≡ read_word f w) where
+  pub inspected_stop : {s : Stop} → r ≡ Err s → refused_line s.number line ≡ inspected_text f line w
   unfolding inspected_text read_text
-  inspected_stop s e = ap (read_text f line w) (sym (ap reading_outcome e) ∙ h)
+  inspected_stop e = ap (read_text f line w) (sym e ∙ h)
 
-  pub inspected_read : (x : Number) → a ≡ Reading.Done x → read_word f w ≡ done x
-  inspected_read x e = sym h ∙ ap reading_outcome e
+  pub inspected_read : {x : Number} → r ≡ Ok x → read_word f w ≡ done x
+  inspected_read e = sym h ∙ e
 
-  pub inspected_done : (x : Number) → a ≡ Reading.Done x → columns f w x ++ line_feed ≡ inspected_text f line w
+  pub inspected_done : {x : Number} → r ≡ Ok x → columns f w x ++ line_feed ≡ inspected_text f line w
   unfolding inspected_text read_text
-  inspected_done x e = ap (read_text f line w) (sym (ap reading_outcome e) ∙ h)
+  inspected_done e = ap (read_text f line w) (sym e ∙ h)
 
 stop_small : (f : Format) (w n p : ℕ) → read_word f w ≡ stop n p → n < 2 ^ 64
 stop_small f w n p r = ⊎_elim (λ e. omega arith) (⊎_elim (λ e. omega arith) (λ e. omega arith)) (read_stops f w r).0
@@ -128,5 +130,5 @@ unfolding inspected_text read_text
 inspected_length f line w l = go (read_word f w) refl
   where
     go : (o : Outcome Number) → read_word f w ≡ o → length (read_text f line w o) ≤ 1024
-    go (stop n p) r = omega (arith, refused_most n line (stop_small f w n p r) l)
-    go (done x) r = columns_length f w x r
+    go (Err s) r = omega (arith, refused_most s.number line (stop_small f w s.number s.place r) l)
+    go (Ok x) r = columns_length f w x r

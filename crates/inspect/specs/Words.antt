@@ -1,7 +1,7 @@
 -- The text of an inspected word.
-use Rattle.std.specs.Prelude.{ℕ, List, ◌++◌}
+use Rattle.std.specs.Prelude.{ℕ, Ok, Err, List, ◌++◌}
 use Rattle.convergents.specs.Pairs.{pair}
-use Rattle.slash.specs.Answers.{Outcome, stop, done}
+use Rattle.slash.specs.Answers.{Outcome}
 use Rattle.slash.specs.Numbers.{parts_of}
 use Rattle.slash.specs.Reading.{read_word}
 use Rattle.slash.specs.declared.format.Format.{Format}
@@ -26,8 +26,8 @@ columns f w x =
 
 -- The line of what reading a word comes to: of a stop its number and the line.
 unfoldable pub read_text : Format → (line word : ℕ) → Outcome Number → List ℕ
-read_text f line w (stop number place) = refused_line number line
-read_text f line w (done x) = columns f w x ++ line_feed
+read_text f line w (Err s) = refused_line s.number line
+read_text f line w (Ok x) = columns f w x ++ line_feed
 
 -- What is printed of a word, at a line.
 unfoldable pub inspected_text : Format → (line word : ℕ) → List ℕ

@@ -2,62 +2,53 @@
 ghost use Rattle.std.specs.Prelude.{◌≡◌, ◌*◌, ◌≤◌, ◌<◌, ◌^◌};
 ghost use Rattle.convergents.specs.Pairs.{pair};
 ghost use Rattle.text.specs.Columns.{thousandths, fraction_text};
-ghost use Rattle.text.specs.Steps.{Room};
-ghost use Rattle.text.specs.Stores.{Stored};
 ghost use Rattle.inspect.specs.Columns.{sign_text, mark_text, six_places, size_text};
-ghost use Rattle.inspect.specs.Steps.{column, stored_columns};
+ghost use Rattle.inspect.specs.Steps.{Room, Added, column, stored_columns};
 
-use crate::store::{put_digits, put_number, put_text};
+use crate::store::{Text, put_digits, put_number, put_text};
 use slash::Parts;
 
-fn put_sign(out: &mut [u8], at: usize, negative: bool) -> usize
-    requires { Room out.old at (column (sign_text negative)) }
-    ensures { Stored out.old at (column (sign_text negative)) out.new result }
+fn put_sign(out: &mut Text, negative: bool)
+    requires { Room out.old.items (column (sign_text negative)) }
+    ensures { Added out.old.items (column (sign_text negative)) out.new.items }
 {
     if negative {
-        put_text(out, at, b"\t-")
+        put_text(out, b"\t-")
     } else {
-        put_text(out, at, b"\t+")
+        put_text(out, b"\t+")
     }
 }
 
-fn put_fraction(out: &mut [u8], at: usize, n: u64, d: u64) -> usize
-    requires { Room out.old at (column (fraction_text (pair n d))) }
-    ensures { Stored out.old at (column (fraction_text (pair n d))) out.new result }
+fn put_fraction(out: &mut Text, n: u64, d: u64)
+    requires { Room out.old.items (column (fraction_text (pair n d))) }
+    ensures { Added out.old.items (column (fraction_text (pair n d))) out.new.items }
 {
-    let numerator = put_text(out, at, b"\t");
-    let slash = put_number(out, numerator, n);
-    let denominator = put_text(out, slash, b"/");
-    put_number(out, denominator, d)
+    put_text(out, b"\t");
+    put_number(out, n);
+    put_text(out, b"/");
+    put_number(out, d);
 }
 
-fn put_mark(out: &mut [u8], at: usize, approximate: bool) -> usize
-    requires { Room out.old at (column (mark_text approximate)) }
-    ensures { Stored out.old at (column (mark_text approximate)) out.new result }
+fn put_mark(out: &mut Text, approximate: bool)
+    requires { Room out.old.items (column (mark_text approximate)) }
+    ensures { Added out.old.items (column (mark_text approximate)) out.new.items }
 {
     if approximate {
-        put_text(out, at, b"\tapproximate")
+        put_text(out, b"\tapproximate")
     } else {
-        put_text(out, at, b"\texact")
+        put_text(out, b"\texact")
     }
 }
 
 // What a word stores, in so many digits: the word, its sign, its fraction, its mark.
-pub(crate) fn put_stored(
-    out: &mut [u8],
-    at: usize,
-    count: u64,
-    w: u64,
-    p: Parts,
-    approximate: bool,
-) -> usize
-    requires { Room out.old at (stored_columns count w p approximate) }
-    ensures { Stored out.old at (stored_columns count w p approximate) out.new result }
+pub(crate) fn put_stored(out: &mut Text, count: u64, w: u64, p: Parts, approximate: bool)
+    requires { Room out.old.items (stored_columns count w p approximate) }
+    ensures { Added out.old.items (stored_columns count w p approximate) out.new.items }
 {
-    let sign = put_digits(out, at, 16, count, w);
-    let fraction = put_sign(out, sign, p.negative);
-    let mark = put_fraction(out, fraction, p.numerator, p.denominator);
-    put_mark(out, mark, approximate)
+    put_digits(out, 16, count, w);
+    put_sign(out, p.negative);
+    put_fraction(out, p.numerator, p.denominator);
+    put_mark(out, approximate);
 }
 
 // The nearest whole number to 1000000 n/d, and at a tie the even one: what a listing's thousandths are,
@@ -73,23 +64,24 @@ fn in_millionths(n: u64, d: u64) -> u64
     if d < twice + odd { below + 1 } else { below }
 }
 
-fn put_places(out: &mut [u8], at: usize, t: u64) -> usize
-    requires { Room out.old at (six_places t) }
-    ensures { Stored out.old at (six_places t) out.new result }
+fn put_places(out: &mut Text, t: u64)
+    requires { Room out.old.items (six_places t) }
+    ensures { Added out.old.items (six_places t) out.new.items }
 {
-    let point = put_number(out, at, t / 1000000);
-    let places = put_text(out, point, b".");
-    put_digits(out, places, 10, 6, t)
+    put_number(out, t / 1000000);
+    put_text(out, b".");
+    put_digits(out, 10, 6, t);
 }
 
 // The size n/d, or a hyphen.
-pub(crate) fn put_size(out: &mut [u8], at: usize, n: u64, d: u64) -> usize
-    requires { (n < 2 ^ 32) × (d < 2 ^ 32) × Room out.old at (column (size_text n d)) }
-    ensures { Stored out.old at (column (size_text n d)) out.new result }
+pub(crate) fn put_size(out: &mut Text, n: u64, d: u64)
+    requires { (n < 2 ^ 32) × (d < 2 ^ 32) × Room out.old.items (column (size_text n d)) }
+    ensures { Added out.old.items (column (size_text n d)) out.new.items }
 {
     if d == 0 {
-        return put_text(out, at, b"\t-");
+        put_text(out, b"\t-");
+    } else {
+        put_text(out, b"\t");
+        put_places(out, in_millionths(n, d));
     }
-    let places = put_text(out, at, b"\t");
-    put_places(out, places, in_millionths(n, d))
 }

@@ -1,5 +1,5 @@
 // What a line of input says.
-ghost use Rattle.std.specs.Prelude.{◌≡◌, [], ◌∷◌};
+ghost use Rattle.std.specs.Prelude.{◌≡◌, ◌<◌, ◌≤◌, [], ◌∷◌, SomeIff};
 ghost use Rattle.inspect.specs.Says.{digit_value, word_says, kind_says, format_says, line_says};
 
 use slash::Format;
@@ -17,41 +17,29 @@ pub(crate) enum Said {
 // The most bytes of a line, its line feed not counted.
 const LONGEST_LINE: usize = 32;
 
-// What stands for the value of a byte that is no digit.
-const NO_DIGIT: u64 = 16;
-
-fn digit_value(b: u8) -> u64
-    ensures { result ≡ digit_value b }
+// The value of a digit below a base, of either case.
+fn digit(b: u8, base: u32) -> Option<u32>
+    requires { (2 ≤ base) × (base ≤ 16) }
+    ensures { SomeIff result (digit_value b < base) (digit_value b) }
 {
-    if (b'0' <= b) & (b <= b'9') {
-        (b - b'0') as u64
-    } else if (b'a' <= b) & (b <= b'f') {
-        (b - 87) as u64
-    } else if (b'A' <= b) & (b <= b'F') {
-        (b - 55) as u64
-    } else {
-        NO_DIGIT
-    }
+    char::from(b).to_digit(base)
 }
 
 fn read_word(line: &[u8]) -> Said
     ensures { result ≡ word_says line.now }
 {
-    if line.len() == 0 {
+    if line.is_empty() {
         return Said::Other;
     }
     if 16 < line.len() {
         return Said::Other;
     }
     let mut value: u64 = 0;
-    let mut i = 0;
-    while i < line.len() {
-        let d = digit_value(line[i]);
-        if 16 <= d {
+    for &b in line {
+        let Some(d) = digit(b, 16) else {
             return Said::Other;
-        }
-        value = value * 16 + d;
-        i += 1;
+        };
+        value = value * 16 + d as u64;
     }
     Said::Word(value)
 }
@@ -59,43 +47,37 @@ fn read_word(line: &[u8]) -> Said
 fn one_digit(kind: u64, x: u8) -> Said
     ensures { result ≡ kind_says kind (x ∷ []) }
 {
-    let d = digit_value(x);
-    if 10 <= d {
+    let Some(k) = digit(x, 10) else {
         return Said::Other;
-    }
-    Said::Format(Format { kind: kind, k: d })
+    };
+    Said::Format(Format { kind, k: k as u64 })
 }
 
 fn two_digits(kind: u64, x: u8, y: u8) -> Said
     ensures { result ≡ kind_says kind (x ∷ y ∷ []) }
 {
-    let tens = digit_value(x);
-    let ones = digit_value(y);
+    let Some(tens) = digit(x, 10) else {
+        return Said::Other;
+    };
+    let Some(ones) = digit(y, 10) else {
+        return Said::Other;
+    };
     if tens == 0 {
         return Said::Other;
     }
-    if 10 <= tens {
-        return Said::Other;
-    }
-    if 10 <= ones {
-        return Said::Other;
-    }
-    Said::Format(Format {
-        kind: kind,
-        k: tens * 10 + ones,
-    })
+    let k = (tens * 10 + ones) as u64;
+    Said::Format(Format { kind, k })
 }
 
+// What stands behind a kind's name.
 fn read_kind(kind: u64, k: &[u8]) -> Said
     ensures { result ≡ kind_says kind k.now }
 {
-    if k.len() == 1 {
-        return one_digit(kind, k[0]);
+    match k {
+        [x] => one_digit(kind, *x),
+        [x, y] => two_digits(kind, *x, *y),
+        _ => Said::Other,
     }
-    if k.len() == 2 {
-        return two_digits(kind, k[0], k[1]);
-    }
-    Said::Other
 }
 
 fn read_format(name: &[u8], k: &[u8]) -> Said

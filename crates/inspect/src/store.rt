@@ -1,30 +1,31 @@
-// Text and numbers stored into a lent list: each function answers the place behind what it stored.
-ghost use Rattle.std.specs.Prelude.{◌≡◌, ◌≤◌, ◌<◌, length};
+// Text and numbers added to what waits to be written.
+ghost use Rattle.std.specs.Prelude.{◌≡◌, ◌≤◌, ◌<◌};
 ghost use Rattle.text.specs.Lines.{refused_line};
 ghost use Rattle.text.specs.Numbers.{decimal, hex_digit};
-ghost use Rattle.text.specs.Steps.{Room};
-ghost use Rattle.text.specs.Stores.{Stored};
 ghost use Rattle.inspect.specs.Columns.{last_digits};
+ghost use Rattle.inspect.specs.Steps.{Room, Added};
 
+use arrayvec::ArrayVec;
 use slash::Stop;
 
-pub(crate) fn put_text(out: &mut [u8], at: usize, text: &[u8]) -> usize
-    requires { Room out.old at text.now }
-    ensures { Stored out.old at text.now out.new result }
+// The text that waits to be written.
+pub(crate) type Text = ArrayVec<u8, 16384>;
+
+pub(crate) fn put_text(out: &mut Text, text: &[u8])
+    requires { Room out.old.items text.now }
+    ensures { Added out.old.items text.now out.new.items }
 {
-    let end = at + text.len();
-    out[at..end].copy_from_slice(text);
-    end
+    out.try_extend_from_slice(text).unwrap();
 }
 
 // n in decimal.
-pub(crate) fn put_number(out: &mut [u8], at: usize, n: u64) -> usize
-    requires { Room out.old at (decimal n) }
-    ensures { Stored out.old at (decimal n) out.new result }
+pub(crate) fn put_number(out: &mut Text, n: u64)
+    requires { Room out.old.items (decimal n) }
+    ensures { Added out.old.items (decimal n) out.new.items }
 {
-    let mut digits = [0u8; 20];
+    let mut digits = [0; 20];
     let count = io::decimal(n, &mut digits);
-    put_text(out, at, &digits[..count])
+    put_text(out, &digits[..count]);
 }
 
 fn digit(d: u64) -> u8
@@ -35,35 +36,27 @@ fn digit(d: u64) -> u8
 }
 
 // The last `count` digits of n in a base.
-pub(crate) fn put_digits(out: &mut [u8], at: usize, base: u64, count: u64, n: u64) -> usize
-    requires { (1 ≤ base) × (base ≤ 16) × Room out.old at (last_digits base count n) }
-    ensures { Stored out.old at (last_digits base count n) out.new result }
+pub(crate) fn put_digits(out: &mut Text, base: u64, count: u64, n: u64)
+    requires { (1 ≤ base) × (base ≤ 16) × Room out.old.items (last_digits base count n) }
+    ensures { Added out.old.items (last_digits base count n) out.new.items }
 {
     if count == 0 {
-        return at;
+        return;
     }
-    let last = put_digits(out, at, base, count - 1, n / base);
-    out[last] = digit(n % base);
-    last + 1
-}
-
-// Room for the line of a stop.
-fn stop_buffer() -> [u8; 50]
-    ensures { 50 ≡ length result }
-{
-    [0; 50]
+    put_digits(out, base, count - 1, n / base);
+    put_text(out, &[digit(n % base)]);
 }
 
 // The line of a stop.
-pub(crate) fn put_refused(out: &mut [u8], at: usize, number: u64, line: u64) -> usize
-    requires { Room out.old at (refused_line number line) }
-    ensures { Stored out.old at (refused_line number line) out.new result }
+pub(crate) fn put_refused(out: &mut Text, number: u64, line: u64)
+    requires { Room out.old.items (refused_line number line) }
+    ensures { Added out.old.items (refused_line number line) out.new.items }
 {
-    let mut text = stop_buffer();
+    let mut text = [0; 50];
     let stop = Stop {
-        number: number,
+        number,
         place: line,
     };
     let length = text::refused_line(stop, &mut text);
-    put_text(out, at, &text[..length])
+    put_text(out, &text[..length]);
 }

@@ -1,31 +1,16 @@
-use Rattle.inspect.proofs.QuotientLaws.{spacing_end, spacing_first, spacing_next, spacing_room, spacing_start}
-use Rattle.text.proofs.NumberLaws.{chain, room_first, room_rest}
+use Rattle.inspect.proofs.StoreLaws.{added, room_first, room_rest}
+use Rattle.inspect.proofs.QuotientLaws.{spacing_end, spacing_first, spacing_next, spacing_room}
 use native.Mathlib.Omega.{arith}
 use Rattle.inspect.proofs.quotient.put_behind_spaces.Goals as goal
 
-pub loop-i-init : goal.loop-i-init
-loop-i-init c = spacing_start _ _ _
+pub put_text-requires : goal.put_text-requires
+put_text-requires c = spacing_first c.loop-q.invariant c.loop-q-test.true c.requires
 
-pub put_text-number-requires : goal.put_text-number-requires
-put_text-number-requires c = spacing_first c.loop-i.invariant (omega arith) c.requires
+pub put_number-requires : goal.put_number-requires
+put_number-requires c = room_rest (room_first _ (spacing_room c.loop-q.invariant c.loop-q-test.true c.requires)) c.put_text.ensures
 
-pub offset_bounds-list-i : goal.offset_bounds-list-i
-offset_bounds-list-i c = omega arith
-
-pub bounds-list-i : goal.bounds-list-i
-bounds-list-i c = omega arith
-
-pub put_number-end-requires : goal.put_number-end-requires
-put_number-end-requires c = room_rest (room_first _ (spacing_room c.loop-i.invariant (omega arith) c.requires)) c.put_text-number.ensures
-
-pub overflow_add-i : goal.overflow_add-i
-overflow_add-i c = omega arith
-
-pub loop-i-smaller : goal.loop-i-smaller
-loop-i-smaller c = omega arith
-
-pub loop-i-preserved : goal.loop-i-preserved
-loop-i-preserved c = spacing_next c.loop-i.invariant (omega arith) (chain c.put_text-number.ensures c.put_number-end.ensures)
+pub loop-q-preserved : goal.loop-q-preserved
+loop-q-preserved c = spacing_next c.loop-q.invariant c.loop-q-test.true (added c.put_text.ensures c.put_number.ensures)
 
 pub returns : goal.returns
-returns c = spacing_end c.loop-i.invariant (omega arith)
+returns c = spacing_end c.loop-q.invariant (omega arith)

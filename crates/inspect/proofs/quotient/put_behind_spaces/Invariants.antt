@@ -1,10 +1,5 @@
 use Rattle.inspect.proofs.QuotientLaws.{Spacing}
-use Prim.Native.Nat.{◌-◌}
-use lib.ListN.{length}
 use Rattle.inspect.proofs.quotient.put_behind_spaces.Given as goal
 
-abbrev pub invariant-loop-i : goal.invariant-loop-i
-invariant-loop-i l = Spacing l.initial.out l.at l.list l.out l.end l.i
-
-abbrev pub decreases-loop-i : goal.decreases-loop-i
-decreases-loop-i l = length l.list - l.i
+abbrev pub invariant-loop-q : goal.invariant-loop-q
+invariant-loop-q l = Spacing l.initial.out.items l.list l.out.items l.q-index

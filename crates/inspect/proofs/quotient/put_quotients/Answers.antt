@@ -1,20 +1,20 @@
-use Rattle.inspect.proofs.QuotientLaws.{quotients_listed, quotients_refused}
-use Rattle.text.proofs.NumberLaws.{room_as, store_none, stored_as}
+use Rattle.inspect.proofs.StoreLaws.{added_as, added_none, room_as}
+use Rattle.inspect.proofs.QuotientLaws.{quotients_listed, quotients_refused, quotients_within}
 use lib.Seq.{length-take-le}
-use mathlib.Core.Path.{sym}
+use mathlib.Core.Path.{refl, sym}
 use Rattle.inspect.proofs.quotient.put_quotients.Goals as goal
 
 pub slice_bounds-list-end : goal.slice_bounds-list-end
-slice_bounds-list-end c = (quotients_listed _ _ c.list_buffer-list.result c.list_buffer-list.ensures _ c.quotients.ensures.counted c.quotients.ensures.stored c.in-Done.is).0
+slice_bounds-list-end c = quotients_within _ _ _ refl c.quotients.ensures.counted c.quotients.ensures.stored c.in-Ok.is
 
 pub slice_bounds-put_list-end : goal.slice_bounds-put_list-end
-slice_bounds-put_list-end c = sym (length-take-le _ _ (quotients_listed _ _ c.list_buffer-list.result c.list_buffer-list.ensures _ c.quotients.ensures.counted c.quotients.ensures.stored c.in-Done.is).0)
+slice_bounds-put_list-end c = sym (length-take-le _ _ (quotients_within _ _ _ refl c.quotients.ensures.counted c.quotients.ensures.stored c.in-Ok.is))
 
 pub put_list-requires : goal.put_list-requires
-put_list-requires c = room_as (sym (quotients_listed _ _ c.list_buffer-list.result c.list_buffer-list.ensures _ c.quotients.ensures.counted c.quotients.ensures.stored c.in-Done.is).1) c.requires
+put_list-requires c = room_as (sym (quotients_listed _ _ _ refl c.quotients.ensures.counted c.quotients.ensures.stored c.in-Ok.is)) c.requires
 
-pub returns-in-Stopped : goal.returns-in-Stopped
-returns-in-Stopped c = stored_as (quotients_refused _ _ c.list_buffer-list.result c.list_buffer-list.ensures _ c.quotients.ensures.counted c.in-Stopped.is) (store_none _ _)
+pub returns-in-Ok : goal.returns-in-Ok
+returns-in-Ok c = added_as (quotients_listed _ _ _ refl c.quotients.ensures.counted c.quotients.ensures.stored c.in-Ok.is) c.put_list.ensures
 
-pub returns-in-Done : goal.returns-in-Done
-returns-in-Done c = stored_as (quotients_listed _ _ c.list_buffer-list.result c.list_buffer-list.ensures _ c.quotients.ensures.counted c.quotients.ensures.stored c.in-Done.is).1 c.put_list.ensures
+pub returns-in_default : goal.returns-in_default
+returns-in_default c = added_as (quotients_refused _ _ _ refl c.quotients.ensures.counted c.in_default.is) added_none

@@ -1,11 +1,9 @@
-use Rattle.inspect.proofs.SaidLaws.{kind_none, kind_one, kind_two}
+use Rattle.inspect.proofs.SaidLaws.{kind_none}
+use mathlib.Core.Logic.{inl, inr}
 use Rattle.inspect.proofs.said.read_kind.Goals as goal
 
-pub returns-then-k-eq1 : goal.returns-then-k-eq1
-returns-then-k-eq1 c = kind_one _ _ c.if-k-eq1.true c.one_digit.ensures
+pub returns-in_default : goal.returns-in_default
+returns-in_default c = kind_none _ _ (inl c.in_default.len_below)
 
-pub returns-then-k-eq2 : goal.returns-then-k-eq2
-returns-then-k-eq2 c = kind_two _ _ c.if-k-eq2.true c.two_digits.ensures
-
-pub returns : goal.returns
-returns c = kind_none _ _ c.if-k-eq1.false c.if-k-eq2.false
+pub returns-in_default-2 : goal.returns-in_default-2
+returns-in_default-2 c = kind_none _ _ (inr c.in_default.len_at_least)
