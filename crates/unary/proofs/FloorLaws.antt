@@ -3,21 +3,20 @@
 -- `ceiling_before`: the same from above. `floor_and_above`, `above_lt`: n is d times its floor and what is above it, which is below d.
 -- `of_minus_2_3`: the papers' example. The others are about the machine: each step reads `to_z (of_z z)`, which is z where z fits.
 use mathlib.Core.Path.{◌≡◌, refl, sym, ap, ◌∙◌, subst, subst⁻¹}
-use mathlib.Core.Bool.{Bool, true, false, true≢false, false≢true}
+use mathlib.Core.Bool.{Bool, true, false, false≢true}
 use Prim.Native.Nat.{ℕ, zero, suc, ◌+◌, ◌-◌, ◌*◌, ◌/◌, ◌%◌, ◌^◌, ◌<◌, ◌≤◌}
 use native.Mathlib.Omega.{arith}
-use native.Mathlib.Nat.{zero-add, div-le_self, div-add-mod', mod-lt, mod-le}
-use lib.Dec.{T}
+use native.Mathlib.Nat.{div-le_self, div-add-mod', mod-lt, mod-le}
 use lib.IntN.{ℤ, pos, negsuc, neg_ℤ, nat_abs, suc_ℤ, pred_ℤ, ◌+ℤ◌, ◌-ℤ◌, ◌*ℤ◌, +ℤ_idl, +ℤ_comm, +ℤ-neg_ℤ_cancel, -ℤ-+ℤ_cancel, neg_ℤ-neg_ℤ, neg_ℤ-suc_ℤ}
-use lib.Signed.{lt_z, le_z, non_neg, quot_z}
+use lib.Signed.{lt_z, le_z}
 use mir.Syntax.{w64}
-use mir.Val.{Fits, SFits, to_z, of_z}
+use mir.Val.{SFits, to_z, of_z}
 use mir.ValLaws.{to_z_pos}
 use mir.Facts.{to_z-of_z}
 use borrow.Author.Tests.{le-ltb, lt-ltb, le-leb, ltb-true, leb-true}
+use Rattle.std.specs.Int.{int_div_euclid, int_rem_euclid}
 use Rattle.slash.specs.Numbers.{signed_of}
 use Rattle.unary.specs.Floor.{is_below_zero, floor_by, ceiling_by, above_floor}
-use Rattle.unary.specs.Steps.{flipped}
 
 -- what the machine reads of a number that fits
 abbrev pub read : ℤ → ℤ
@@ -33,10 +32,6 @@ large_fits (negsuc n) h = record { sfits = omega arith }
 pub small_fits : (z : ℤ) → nat_abs z < 2 ^ 62 → SFits w64 z
 small_fits z h = large_fits z (omega arith)
 
--- what holds of a number holds of what the machine reads of it
-pub of_read : (P : ℤ → Type 0) {z : ℤ} → SFits w64 z → P z → P (read z)
-of_read P h p = subst⁻¹ P (same h) p
-
 pub neg_size : (z : ℤ) → nat_abs (neg_ℤ z) ≡ nat_abs z
 neg_size (pos zero) = refl
 neg_size (pos (suc n)) = refl
@@ -44,7 +39,7 @@ neg_size (negsuc n) = refl
 
 -- ---- a sign and a size as one number
 
-to_pos : (n : ℕ) → n < 2 ^ 62 → to_z w64 n ≡ pos n
+pub to_pos : (n : ℕ) → n < 2 ^ 62 → to_z w64 n ≡ pos n
 to_pos n h = to_z_pos w64 n (omega arith)
 
 module _ (n : ℕ) (h : n < 2 ^ 62) where
@@ -69,24 +64,10 @@ signed_size false n = refl
 
 -- ---- the opposite, and the size
 
--- the tests' answers
 below_is : (z : ℤ) → lt_z z (pos 0) ≡ is_below_zero z
 unfolding is_below_zero
 below_is (pos n) = let h : 0 ≤ n = omega arith in le-ltb n 0 h
 below_is (negsuc n) = refl
-
-opposite_above : (z : ℤ) → lt_z z (pos 0) ≡ true → T (non_neg (neg_ℤ z))
-opposite_above (pos n) e = absurd (omega (arith, ltb-true n 0 e))
-opposite_above (negsuc n) e = tt
-
-above : (z : ℤ) → lt_z z (pos 0) ≡ false → non_neg z ≡ true
-above (pos n) e = refl
-above (negsuc n) e = absurd (true≢false e)
-
-flipped_above : (z : ℤ) → lt_z z (pos 0) ≡ true → non_neg (flipped z) ≡ true
-unfolding flipped
-flipped_above (pos n) e = absurd (omega (arith, ltb-true n 0 e))
-flipped_above (negsuc n) e = refl
 
 module _ (z : ℤ) (b : nat_abs z < 2 ^ 62) where
   fits : SFits w64 z
@@ -101,98 +82,18 @@ module _ (z : ℤ) (b : nat_abs z < 2 ^ 62) where
   pub opposite_returns : read (pos 0 -ℤ read z) ≡ neg_ℤ z
   opposite_returns = same opposite_fits ∙ opposite_is
 
-  some_fits : Fits w64 (nat_abs z)
-  some_fits = record { fits = omega arith }
+-- ---- the machine's division
 
-  pub size_cast : lt_z (read z) (pos 0) ≡ true → T (non_neg (read (pos 0 -ℤ read z))) × Fits w64 (nat_abs (read (pos 0 -ℤ read z)))
-  size_cast t =
-      subst⁻¹ (λ (y : ℤ). T (non_neg y) × Fits w64 (nat_abs y)) opposite_returns
-      (opposite_above z (ap (λ (y : ℤ). lt_z y (pos 0)) (sym (same fits)) ∙ t), subst⁻¹ (λ (n : ℕ). Fits w64 n) (neg_size z) some_fits)
+-- the test's answer
+pub test_is : (n : ℤ) → SFits w64 n → lt_z (read n) (pos 0) ≡ is_below_zero n
+test_is n f = ap (λ (z : ℤ). lt_z z (pos 0)) (same f) ∙ below_is n
 
-  pub size_keep : lt_z (read z) (pos 0) ≡ false → T (non_neg (read z)) × Fits w64 (nat_abs (read z))
-  size_keep t =
-      of_read (λ y. T (non_neg y) × Fits w64 (nat_abs y)) fits
-      (subst T (sym (above z (ap (λ (y : ℤ). lt_z y (pos 0)) (sym (same fits)) ∙ t))) tt, some_fits)
-
-  pub size_returns : nat_abs (read (pos 0 -ℤ read z)) ≡ nat_abs z
-  size_returns = ap nat_abs opposite_returns ∙ neg_size z
-
--- ---- -1 - n
-
-flip_is : (n : ℤ) → negsuc 0 -ℤ n ≡ flipped n
-unfolding flipped
-flip_is (pos zero) = refl
-flip_is (pos (suc n)) = ap (λ (m : ℕ). negsuc (suc m)) (zero-add n)
-flip_is (negsuc n) =
-    let h : 1 ≤ suc n = omega arith in
-    let e : suc n - 1 ≡ n = omega arith in
-    simp (le-ltb _ _ h, e)
-
-flipped_fits : (n : ℤ) → SFits w64 n → SFits w64 (flipped n)
-unfolding flipped
-flipped_fits (pos n) h = record { sfits = h.sfits }
-flipped_fits (negsuc n) h = record { sfits = h.sfits }
-
-module _ (n : ℤ) (h : SFits w64 n) where
-  pub flip_fits : SFits w64 (negsuc 0 -ℤ read n)
-  flip_fits = subst⁻¹ (λ (z : ℤ). SFits w64 (negsuc 0 -ℤ z)) (same h) (subst⁻¹ (λ (z : ℤ). SFits w64 z) (flip_is n) (flipped_fits n h))
-
-  pub flip_returns : read (negsuc 0 -ℤ read n) ≡ flipped n
-  flip_returns = same flip_fits ∙ ap (λ (z : ℤ). negsuc 0 -ℤ z) (same h) ∙ flip_is n
-
--- ---- the quotient of what isn't below 0
-
-quotient_is : (n : ℤ) (d : ℕ) → non_neg n ≡ true → quot_z n (pos d) ≡ pos (nat_abs n / d)
-quotient_is (pos a) d h = refl
-quotient_is (negsuc a) d h = absurd (false≢true h)
-
-quotient_small : (n : ℤ) (d : ℕ) → SFits w64 n → non_neg n ≡ true → SFits w64 (pos (nat_abs n / d))
-quotient_small (pos a) d f h = record { sfits = omega (arith, f.sfits, div-le_self a d) }
-quotient_small (negsuc a) d f h = absurd (false≢true h)
-
-module _ (n : ℤ) (d : ℕ) (f : SFits w64 n) (h : non_neg n ≡ true) (some : 0 < d) (small : d < 2 ^ 62) where
-  quotient_machine : quot_z (read n) (to_z w64 d) ≡ pos (nat_abs n / d)
-  quotient_machine = ap (λ (z : ℤ). quot_z z (to_z w64 d)) (same f) ∙ ap (λ (z : ℤ). quot_z n z) (to_pos d small) ∙ quotient_is n d h
-
-  pub quotient_divides : (0 < d) × SFits w64 (quot_z (read n) (to_z w64 d))
-  quotient_divides = (some, subst⁻¹ (λ (z : ℤ). SFits w64 z) quotient_machine (quotient_small n d f h))
-
-  pub quotient_returns : read (quot_z (read n) (to_z w64 d)) ≡ pos (nat_abs n / d)
-  quotient_returns = same quotient_divides.1 ∙ quotient_machine
-
--- ---- the floor, the two ways
-
-module _ (n : ℤ) (f : SFits w64 n) where
-  pub test_below : lt_z (read n) (pos 0) ≡ true → non_neg (flipped n) ≡ true
-  test_below t = flipped_above n (ap (λ (z : ℤ). lt_z z (pos 0)) (sym (same f)) ∙ t)
-
-  pub test_above : lt_z (read n) (pos 0) ≡ false → non_neg n ≡ true
-  test_above t = above n (ap (λ (z : ℤ). lt_z z (pos 0)) (sym (same f)) ∙ t)
-
-  pub test_is : lt_z (read n) (pos 0) ≡ is_below_zero n
-  test_is = ap (λ (z : ℤ). lt_z z (pos 0)) (same f) ∙ below_is n
-
-floor_flipped : (n : ℤ) (d : ℕ) → non_neg (flipped n) ≡ true → flipped (pos (nat_abs (flipped n) / d)) ≡ floor_by n d
-unfolding flipped floor_by
-floor_flipped (pos a) d h = absurd (false≢true h)
-floor_flipped (negsuc a) d h = refl
-
-floor_plain : (n : ℤ) (d : ℕ) → non_neg n ≡ true → pos (nat_abs n / d) ≡ floor_by n d
+pub euclid_floor : (n : ℤ) (d : ℕ) → int_div_euclid n (pos d) ≡ floor_by n d
 unfolding floor_by
-floor_plain (pos a) d h = refl
-floor_plain (negsuc a) d h = absurd (false≢true h)
+euclid_floor (pos a) d = refl
+euclid_floor (negsuc a) d = refl
 
-module _ (n : ℤ) (d : ℕ) (nf : SFits w64 n) where
-  -- the number flipped, its quotient, and that flipped back
-  pub floor_below : (a q r : ℤ) → SFits w64 a → SFits w64 q → SFits w64 r → a ≡ flipped (read n) → q ≡ pos (nat_abs (read a) / d) → r ≡ flipped (read q)
-      → non_neg (flipped n) ≡ true → read r ≡ floor_by n d
-  floor_below a q r af qf rf ae qe re h =
-      let e : a ≡ flipped n = ae ∙ ap flipped (same nf) in
-      let g : q ≡ pos (nat_abs (flipped n) / d) = qe ∙ ap (λ (z : ℤ). pos (nat_abs z / d)) (same af ∙ e) in
-      same rf ∙ re ∙ ap flipped (same qf ∙ g) ∙ floor_flipped n d h
-
-  pub floor_above : (q : ℤ) → SFits w64 q → q ≡ pos (nat_abs (read n) / d) → non_neg n ≡ true → read q ≡ floor_by n d
-  floor_above q qf qe h = same qf ∙ qe ∙ ap (λ (z : ℤ). pos (nat_abs z / d)) (same nf) ∙ floor_plain n d h
+-- ---- sizes
 
 pub floor_size : (n : ℤ) (d : ℕ) → nat_abs (floor_by n d) ≤ nat_abs n
 unfolding floor_by
@@ -279,40 +180,6 @@ pub ceiling_size : (n : ℤ) (d : ℕ) → nat_abs (ceiling_by n d) ≤ nat_abs 
 unfolding ceiling_by
 ceiling_size n d = omega (arith, neg_size (floor_by (neg_ℤ n) d), floor_size (neg_ℤ n) d, neg_size n)
 
-module _ (n : ℤ) (d : ℕ) (b : nat_abs n < 2 ^ 62) where
-  module _ (a q : ℤ) (af : SFits w64 a) (qf : SFits w64 q) (ae : a ≡ neg_ℤ (read n)) (qe : q ≡ floor_by (read a) d) where
-    between : q ≡ floor_by (neg_ℤ n) d
-    between = qe ∙ ap (λ (z : ℤ). floor_by z d) (same af ∙ ae ∙ ap neg_ℤ (same (small_fits n b)))
-
-    pub ceiling_small : nat_abs (read q) < 2 ^ 62
-    ceiling_small = of_read (λ z. nat_abs z < 2 ^ 62) qf (omega (arith, ap nat_abs between, floor_size (neg_ℤ n) d, neg_size n))
-
-    pub ceiling_returns : (r : ℤ) → SFits w64 r → r ≡ neg_ℤ (read q) → read r ≡ ceiling_by n d
-    unfolding ceiling_by
-    ceiling_returns r rf re = same rf ∙ re ∙ ap neg_ℤ (same qf ∙ between)
-
--- ---- a product and a difference
-
-module _ (d : ℕ) (q : ℤ) (f : SFits w64 q) (small : d < 2 ^ 62) (b : nat_abs (pos d *ℤ q) < 2 ^ 63) where
-  product_is : to_z w64 d *ℤ read q ≡ pos d *ℤ q
-  product_is = ap (λ (z : ℤ). z *ℤ read q) (to_pos d small) ∙ ap (λ (z : ℤ). pos d *ℤ z) (same f)
-
-  pub product_fits : SFits w64 (to_z w64 d *ℤ read q)
-  product_fits = subst⁻¹ (λ (z : ℤ). SFits w64 z) product_is (large_fits (pos d *ℤ q) b)
-
-  pub product_returns : read (to_z w64 d *ℤ read q) ≡ pos d *ℤ q
-  product_returns = same product_fits ∙ product_is
-
-module _ (n m : ℤ) (f : SFits w64 n) (g : SFits w64 m) (b : nat_abs (n -ℤ m) < 2 ^ 62) where
-  difference_is : read n -ℤ read m ≡ n -ℤ m
-  difference_is = ap (λ (z : ℤ). z -ℤ read m) (same f) ∙ ap (λ (z : ℤ). n -ℤ z) (same g)
-
-  pub difference_fits : SFits w64 (read n -ℤ read m)
-  difference_fits = subst⁻¹ (λ (z : ℤ). SFits w64 z) difference_is (small_fits (n -ℤ m) b)
-
-  pub difference_returns : read (read n -ℤ read m) ≡ n -ℤ m
-  difference_returns = same difference_fits ∙ difference_is
-
 -- ---- mod 1
 
 -- what d times the floor leaves of n
@@ -359,35 +226,7 @@ floor_and_above n d s =
     let m : ℤ = pos d *ℤ floor_by n d in
     sym (ap (λ (z : ℤ). m +ℤ z) (sym (left_is n d s)) ∙ +ℤ_comm m (n -ℤ m) ∙ -ℤ-+ℤ_cancel n m)
 
--- d times the floor is at most d above n in size
-floor_product : (n : ℤ) (d : ℕ) → 0 < d → nat_abs (pos d *ℤ floor_by n d) ≤ nat_abs n + d
-unfolding floor_by
-floor_product (pos a) d s = omega (arith, div-add-mod' a d)
-floor_product (negsuc a) d s = omega (arith, neg_size (pos (d * suc (a / d))), div-add-mod' a d)
-
--- the floor q, d times it, and what n less that comes to
-module _ (n : ℤ) (d : ℕ) (b : nat_abs n < 2 ^ 62) (some : 0 < d) (small : d < 2 ^ 62) (q : ℤ) (qf : SFits w64 q) (qe : q ≡ floor_by (read n) d) where
-  floor_read : read q ≡ floor_by n d
-  floor_read = same qf ∙ qe ∙ ap (λ (z : ℤ). floor_by z d) (same (small_fits n b))
-
-  pub above_product : nat_abs (pos d *ℤ read q) < 2 ^ 63
-  above_product = subst⁻¹ (λ (z : ℤ). nat_abs (pos d *ℤ z) < 2 ^ 63) floor_read (omega (arith, floor_product n d some))
-
-  module _ (m : ℤ) (mf : SFits w64 m) (me : m ≡ pos d *ℤ read q) where
-    left_read : read n -ℤ read m ≡ n -ℤ pos d *ℤ floor_by n d
-    left_read =
-        ap (λ (z : ℤ). z -ℤ read m) (same (small_fits n b))
-        ∙ ap (λ (z : ℤ). n -ℤ z) (same mf ∙ me ∙ ap (λ (z : ℤ). pos d *ℤ z) floor_read)
-
-    left_size : nat_abs (read n -ℤ read m) ≡ above_floor n d
-    left_size = ap nat_abs (left_read ∙ left_is n d some)
-
-    pub above_difference : nat_abs (read n -ℤ read m) < 2 ^ 62
-    above_difference = omega (arith, left_size, above_lt n d some)
-
-    module _ (r : ℤ) (rf : SFits w64 r) (re : r ≡ read n -ℤ read m) where
-      pub above_size : nat_abs (read r) < 2 ^ 62
-      above_size = of_read (λ z. nat_abs z < 2 ^ 62) rf (omega (arith, ap nat_abs re, above_difference))
-
-      pub above_returns : (t : ℕ) → t ≡ nat_abs (read r) → t ≡ above_floor n d
-      above_returns t e = e ∙ ap nat_abs (same rf ∙ re) ∙ left_size
+-- the machine's remainder
+pub euclid_above : (n : ℤ) (d : ℕ) → 0 < d → int_rem_euclid n (pos d) ≡ pos (above_floor n d)
+euclid_above (pos a) d s = ap pos (sym (above_plain a d))
+euclid_above (negsuc a) d s = ap pos (sym (above_below a d s))

@@ -14,12 +14,13 @@ use native.Mathlib.Decide.{ℕ_discrete}
 use lib.Bits.{bit_and, and_mask}
 use lib.Dec.{eqb, leb}
 use lib.Pow.{pow_pos, pow_mono}
-use lib.IntN.{ℤ, pos, negsuc, nat_abs}
+use lib.IntN.{ℤ, pos, negsuc, neg_ℤ, nat_abs, ◌-ℤ◌}
 use lib.Signed.{lt_z}
 use mir.Syntax.{w64}
-use mir.Val.{Fits, SFits}
+use mir.Val.{Fits, SFits, to_z}
 use borrow.Author.Tests.{eqb-true, lt-leb}
 use Rattle.std.specs.Prelude.{if◌then◌else◌, Ok, Err}
+use Rattle.std.specs.Int.{int_div_euclid, int_rem_euclid}
 use Rattle.convergents.specs.Rounding.{round}
 use Rattle.slash.specs.Answers.{Outcome, stop, done, ◌then◌, WhenDone}
 use Rattle.slash.specs.Steps.{SmallParts, HeldParts, HeldValue}
@@ -51,7 +52,7 @@ use Rattle.unary.specs.Floor.{is_below_zero, floor_by, ceiling_by, above_floor}
 use Rattle.unary.specs.Steps.{SmallValue, ExactIn}
 use Rattle.unary.specs.Signs.{sign_bit, with_highest, new_sign, sign_touched}
 use Rattle.unary.specs.Operations.{over_one, signed_numerator, reciprocal_parts, floor_parts, ceiling_parts, mod_parts, exact_parts, exact_zero, exact_infinity, exact_unary, is_unary, unary_result, check_unary, unary_word}
-use Rattle.unary.proofs.FloorLaws.{read, same, small_fits, of_read, signed_size, test_is, floor_size, ceiling_size, above_lt, above_le}
+use Rattle.unary.proofs.FloorLaws.{read, same, small_fits, neg_size, to_pos, signed_size, test_is, opposite_fits, opposite_returns, euclid_floor, euclid_above, floor_size, ceiling_size, above_lt, above_le}
 
 -- ---- the highest bit of a word
 
@@ -112,37 +113,56 @@ module _ (f : Format) where
 
 -- ---- whole numbers
 
-pub whole_is : (n : ℤ) → nat_abs n < 2 ^ 62 → (s : ℕ) → s ≡ nat_abs (read n)
-    → record { negative = lt_z (read n) (pos 0); numerator = s; denominator = 1 } ≡ over_one n
+pub whole_is : (n : ℤ) → SFits w64 n → {m : ℕ} → m ≡ nat_abs (read n) → record { negative = lt_z (read n) (pos 0); numerator = m; denominator = 1 } ≡ over_one n
 unfolding over_one
-whole_is n b s e =
-    let f : SFits w64 n = small_fits n b in
-    ap₂ (λ (c : Bool) (m : ℕ). record { negative = c; numerator = m; denominator = 1 }) (test_is n f) (e ∙ ap nat_abs (same f))
+whole_is n f e = ap₂ (λ (c : Bool) (m : ℕ). record { negative = c; numerator = m; denominator = 1 }) (test_is n f) (e ∙ ap nat_abs (same f))
 
--- a whole number F of a fraction, as floor and ceiling are
-module _ (F : ℤ → ℕ → ℤ) (smaller : (n : ℤ) (d : ℕ) → nat_abs (F n d) ≤ nat_abs n) (p : Parts) (s : SmallParts p) (n q : ℤ) (nf : SFits w64 n) (qf : SFits w64 q)
-    (ne : n ≡ signed_of p.negative p.numerator) (qe : q ≡ F (read n) p.denominator) where
-  q_is : q ≡ F (signed_numerator p) p.denominator
-  unfolding signed_numerator
-  q_is = qe ∙ ap (λ (z : ℤ). F z p.denominator) (same nf ∙ ne)
+-- a fraction's numerator with its sign, and what the machine divides of it
+module _ (p : Parts) (s : SmallParts p) (n : ℤ) (ne : n ≡ signed_of p.negative p.numerator) where
+  numerator_small : nat_abs n < 2 ^ 62
+  numerator_small = omega (arith, ap nat_abs ne, signed_size p.negative p.numerator, s.small_numerator)
 
-  pub whole_small : nat_abs (read q) < 2 ^ 62
-  unfolding signed_numerator
-  whole_small =
-      of_read (λ z. nat_abs z < 2 ^ 62) qf
-      (omega (arith, ap nat_abs q_is, smaller (signed_of p.negative p.numerator) p.denominator, signed_size p.negative p.numerator, s.small_numerator))
+  numerator_read : read n ≡ n
+  numerator_read = same (small_fits n numerator_small)
 
-  pub whole_returns : (r : Parts) → r ≡ over_one (read q) → r ≡ over_one (F (signed_numerator p) p.denominator)
-  whole_returns r e = e ∙ ap over_one (same qf ∙ q_is)
+  denominator_is : to_z w64 p.denominator ≡ pos p.denominator
+  denominator_is = to_pos p.denominator (omega (arith, s.small_denominator))
 
-module _ (p : Parts) (s : SmallParts p) (n : ℤ) (nf : SFits w64 n) (ne : n ≡ signed_of p.negative p.numerator) where
-  pub numerator_small : nat_abs (read n) < 2 ^ 62
-  numerator_small = of_read (λ z. nat_abs z < 2 ^ 62) nf (omega (arith, ap nat_abs ne, signed_size p.negative p.numerator, s.small_numerator))
+  quotient_is : (m : ℤ) → int_div_euclid m (to_z w64 p.denominator) ≡ floor_by m p.denominator
+  quotient_is m = ap (λ (z : ℤ). int_div_euclid m z) denominator_is ∙ euclid_floor m p.denominator
 
-  pub mod_returns : (m : ℕ) → m ≡ above_floor (read n) p.denominator → record { negative = false; numerator = m; denominator = p.denominator } ≡ mod_parts p
+  pub floor_returns : {q : ℤ} {r : Parts} → q ≡ int_div_euclid (read n) (to_z w64 p.denominator) → r ≡ over_one (read q) → r ≡ floor_parts p
+  unfolding floor_parts signed_numerator
+  floor_returns {q} e h =
+      let i : q ≡ floor_by n p.denominator = e ∙ quotient_is (read n) ∙ ap (λ (z : ℤ). floor_by z p.denominator) numerator_read in
+      let f : SFits w64 q = small_fits q (omega (arith, ap nat_abs i, floor_size n p.denominator, numerator_small)) in
+      h ∙ ap over_one (same f ∙ i ∙ ap (λ (z : ℤ). floor_by z p.denominator) ne)
+
+  pub numerator_turns : SFits w64 (pos 0 -ℤ read n)
+  numerator_turns = opposite_fits n numerator_small
+
+  module _ {q : ℤ} (e : q ≡ int_div_euclid (read (pos 0 -ℤ read n)) (to_z w64 p.denominator)) where
+    below_is : q ≡ floor_by (neg_ℤ n) p.denominator
+    below_is = e ∙ quotient_is (read (pos 0 -ℤ read n)) ∙ ap (λ (z : ℤ). floor_by z p.denominator) (opposite_returns n numerator_small)
+
+    below_small : nat_abs q < 2 ^ 62
+    below_small = omega (arith, ap nat_abs below_is, floor_size (neg_ℤ n) p.denominator, neg_size n, numerator_small)
+
+    pub ceiling_fits : SFits w64 (pos 0 -ℤ read q)
+    ceiling_fits = opposite_fits q below_small
+
+    pub ceiling_returns : {r : Parts} → r ≡ over_one (read (pos 0 -ℤ read q)) → r ≡ ceiling_parts p
+    unfolding ceiling_parts ceiling_by signed_numerator
+    ceiling_returns h = h ∙ ap over_one (opposite_returns q below_small ∙ ap neg_ℤ below_is ∙ ap (λ (z : ℤ). neg_ℤ (floor_by (neg_ℤ z) p.denominator)) ne)
+
+  pub mod_returns : {m : ℤ} → m ≡ int_rem_euclid (read n) (to_z w64 p.denominator)
+      → record { negative = false; numerator = nat_abs (read m); denominator = p.denominator } ≡ mod_parts p
   unfolding mod_parts signed_numerator
-  mod_returns m e =
-      ap (λ (k : ℕ). record { negative = false; numerator = k; denominator = p.denominator }) (e ∙ ap (λ (z : ℤ). above_floor z p.denominator) (same nf ∙ ne))
+  mod_returns {m} e =
+      let d : ℕ = p.denominator in
+      let i : m ≡ pos (above_floor n d) = e ∙ ap₂ int_rem_euclid numerator_read denominator_is ∙ euclid_above n d s.some_denominator in
+      let f : SFits w64 m = small_fits m (omega (arith, ap nat_abs i, above_lt n d s.some_denominator, s.small_denominator)) in
+      ap (λ (k : ℕ). record { negative = false; numerator = k; denominator = d }) (ap nat_abs (same f ∙ i) ∙ ap (λ (z : ℤ). above_floor z d) ne)
 
 -- ---- by code
 

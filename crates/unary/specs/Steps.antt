@@ -1,5 +1,5 @@
 -- For the code and the proofs alone: steps on the way to what the papers say, and the terms of the laws.
-use Rattle.std.specs.Prelude.{Bool, false, ◌≡◌, ℤ, pos, negsuc}
+use Rattle.std.specs.Prelude.{Bool, false, ◌≡◌}
 use Rattle.slash.specs.Numbers.{parts_of}
 use Rattle.slash.specs.Rounding.{rounded}
 use Rattle.slash.specs.Steps.{SmallParts}
@@ -7,11 +7,6 @@ use Rattle.slash.specs.declared.format.Format.{Format}
 use Rattle.slash.specs.declared.number.Value.{Value}
 use Rattle.slash.specs.declared.number.Value.TheVariants.{Fraction, Zero, Infinity, NotANumber}
 use Rattle.slash.specs.declared.number.Parts.{Parts}
-
--- -1 - n.
-unfoldable pub flipped : ℤ → ℤ
-flipped (pos n) = negsuc n
-flipped (negsuc m) = pos m
 
 -- A value whose parts are small where it is a fraction.
 abbrev pub SmallValue : Value → Type 0

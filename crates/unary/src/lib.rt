@@ -3,7 +3,6 @@
 #![tactic(auto)]
 
 mod each;
-mod floor;
 mod operation;
 mod sign;
 

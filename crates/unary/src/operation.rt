@@ -1,14 +1,14 @@
 // The unary operations: negate, absolute value, reciprocal, floor, ceiling, mod 1, normalise.
-ghost use Rattle.std.specs.Prelude.{◌≡◌, true, ◌≤◌, ◌<◌, ◌^◌, nat_abs};
+ghost use Rattle.std.specs.Prelude.{◌≡◌, true, ◌≤◌, ◌<◌, ◌^◌};
 ghost use Rattle.slash.specs.Answers.{WhenDone};
 ghost use Rattle.slash.specs.Steps.{SmallParts};
 ghost use Rattle.slash.specs.Formats.{known};
 ghost use Rattle.slash.specs.Best.{BestForValue};
+ghost use Rattle.slash.specs.Numbers.{signed_of};
 ghost use Rattle.slash.specs.Reading.{number_of};
 ghost use Rattle.unary.specs.Steps.{SmallValue};
-ghost use Rattle.unary.specs.Operations.{over_one, floor_parts, ceiling_parts, mod_parts, exact_parts, exact_zero, exact_infinity, exact_unary, is_unary, unary_word};
+ghost use Rattle.unary.specs.Operations.{over_one, exact_parts, exact_zero, exact_infinity, exact_unary, is_unary, unary_word};
 
-use crate::floor;
 use crate::sign::{NEGATE, is_sign_touch, touch_sign};
 use slash::{Format, Number, Parts, Stop, Value};
 
@@ -23,60 +23,46 @@ const MOD_1: u64 = 6;
 
 const NORMALISE: u64 = 7;
 
+// A sign and a size as one number.
+fn to_signed(negative: bool, n: u64) -> i64
+    requires { n < 2 ^ 62 }
+    ensures { result ≡ signed_of negative n }
+{
+    if negative { -(n as i64) } else { n as i64 }
+}
+
 fn whole_parts(n: i64) -> Parts
-    requires { nat_abs n < 2 ^ 62 }
     ensures { result ≡ over_one n }
 {
     Parts {
         negative: n < 0,
-        numerator: floor::size(n),
+        numerator: n.unsigned_abs(),
         denominator: 1,
     }
 }
 
-fn floor_parts(p: Parts) -> Parts
-    requires { SmallParts p }
-    ensures { result ≡ floor_parts p }
-{
-    let n = floor::to_signed(p.negative, p.numerator);
-    whole_parts(floor::floor(n, p.denominator))
-}
-
-fn ceiling_parts(p: Parts) -> Parts
-    requires { SmallParts p }
-    ensures { result ≡ ceiling_parts p }
-{
-    let n = floor::to_signed(p.negative, p.numerator);
-    whole_parts(floor::ceiling(n, p.denominator))
-}
-
-fn mod_parts(p: Parts) -> Parts
-    requires { SmallParts p }
-    ensures { result ≡ mod_parts p }
-{
-    let n = floor::to_signed(p.negative, p.numerator);
-    Parts {
-        negative: false,
-        numerator: floor::above_floor(n, p.denominator),
-        denominator: p.denominator,
-    }
-}
-
-// The exact result of a fraction, by code; normalising keeps its value.
+// The exact result of a fraction, by code: division goes toward minus infinity, and normalising keeps
+// the value.
 #[tactic(auto, unfolding(crate::specs::Operations::exact_parts, crate::specs::Operations::reciprocal_parts))]
 fn exact_parts(code: u64, p: Parts) -> Parts
     requires { SmallParts p }
     ensures { result ≡ exact_parts code p }
 {
+    let n = to_signed(p.negative, p.numerator);
+    let d = p.denominator as i64;
     match code {
         RECIPROCAL => Parts {
             negative: p.negative,
             numerator: p.denominator,
             denominator: p.numerator,
         },
-        FLOOR => floor_parts(p),
-        CEILING => ceiling_parts(p),
-        MOD_1 => mod_parts(p),
+        FLOOR => whole_parts(n.div_euclid(d)),
+        CEILING => whole_parts(-(-n).div_euclid(d)),
+        MOD_1 => Parts {
+            negative: false,
+            numerator: n.rem_euclid(d) as u64,
+            denominator: p.denominator,
+        },
         _ => p,
     }
 }
@@ -103,6 +89,7 @@ fn exact_infinity(code: u64, negative: bool) -> Value
     }
 }
 
+#[tactic(auto, unfolding(crate::specs::Operations::exact_unary))]
 fn exact_value(code: u64, v: Value) -> Value
     requires { SmallValue v }
     ensures { result ≡ exact_unary code v }
@@ -116,10 +103,11 @@ fn exact_value(code: u64, v: Value) -> Value
 }
 
 // Whether there is such a code.
+#[tactic(auto, unfolding(crate::specs::Operations::is_unary))]
 pub fn is_unary(code: u64) -> bool
     ensures { result ≡ is_unary code }
 {
-    (NEGATE <= code) & (code <= NORMALISE)
+    matches!(code, NEGATE..=NORMALISE)
 }
 
 // The word that a code makes of w, if that is good.

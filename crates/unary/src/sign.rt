@@ -22,6 +22,7 @@ fn with_highest(highest: u64, set: bool, w: u64) -> u64
     if set { power + rest } else { rest }
 }
 
+#[tactic(auto, unfolding(crate::specs::Signs::new_sign, slash::specs::Bits::bit, slash::specs::Bits::bits))]
 fn touch_highest(highest: u64, code: u64, w: u64) -> u64
     requires { highest < 64 }
     ensures { result ≡ with_highest highest (new_sign code (bit highest w)) w }

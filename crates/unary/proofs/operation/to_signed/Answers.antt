@@ -1,8 +1,5 @@
-use Rattle.unary.proofs.FloorLaws.{minus_fits, signed_negative, signed_positive}
-use Rattle.unary.proofs.floor.to_signed.Goals as goal
-
-pub overflow_sub-result : goal.overflow_sub-result
-overflow_sub-result c = minus_fits _ c.requires
+use Rattle.unary.proofs.FloorLaws.{signed_negative, signed_positive}
+use Rattle.unary.proofs.operation.to_signed.Goals as goal
 
 pub returns-then-negative : goal.returns-then-negative
 returns-then-negative c = signed_negative _ c.requires _ c.if-negative.true
