@@ -5,7 +5,7 @@
 In docs/CLAIMS.md and docs/WRONG_PROGRAMS.md, cell by cell (the forms are in citations.py):
 definitions in the module of the crate that is named, public laws in its proofs, public functions
 and their clauses, must-fail edits, cases of the second program, decisions. In every other document
-but the notes on changes and on the port: each name in backticks is that of something in the repository, and behind
+but the notes on changes, on the port and on the design pass: each name in backticks is that of something in the repository, and behind
 a crate's name of something of that crate. Then: every must-fail edit is cited under its crate,
 every public function has two wrong programs and a row in CLAIMS.md, every crate has a row in
 README.md or ARCHITECTURE.md, include/slash.h declares the functions of crates/lekhnaom and no others,
@@ -60,7 +60,7 @@ SAID_BY_NIGHT = ("8", "9", "10", "11", "19")
 
 # Measured figures, written by a program; and what names things that were there before: the notes on changes, and the
 # page on the port to today's toolchain.
-LEFT_OUT = ("bench/RESULTS.md", "docs/changes/", "docs/PORT.md")
+LEFT_OUT = ("bench/RESULTS.md", "docs/changes/", "docs/PORT.md", "docs/DESIGN-PASS.md")
 
 # Where CLAIMS.md says that there is no array besides the caller's list (CR 6). Brackets there are those of
 # an index, of an attribute or of a slice that is lent, `[u32]`; any others are an array's.
