@@ -26,6 +26,12 @@ ALLOWED = {
     "infix": "a word of the language",
     "zero": "a number of the language",
     "tt": "a value of the language",
+    "Option": "a type of the language",
+    "Some": "a value of the language",
+    "None": "a value of the language",
+    "Ok": "a value of the language",
+    "Ok(())": "a value of the language",
+    "Err": "a value of the language",
     "declared": "a word of paths of the language",
     "steps": "an argument of definitions",
 }
