@@ -18,7 +18,7 @@ use lib.IntN.{ℤ, pos, negsuc, neg_ℤ, nat_abs, ◌-ℤ◌}
 use lib.Signed.{lt_z}
 use mir.Syntax.{w64}
 use mir.Val.{Fits, SFits, to_z}
-use borrow.Author.Tests.{eqb-true, lt-leb}
+use borrow.Author.Tests.{eqb-true, lt-leb, eq-eqb, ne_eqb}
 use Rattle.std.specs.Prelude.{if◌then◌else◌, Ok, Err}
 use Rattle.std.specs.Int.{int_div_euclid, int_rem_euclid}
 use Rattle.convergents.specs.Rounding.{round}
@@ -164,9 +164,32 @@ module _ (p : Parts) (s : SmallParts p) (n : ℤ) (ne : n ≡ signed_of p.negati
       let f : SFits w64 m = small_fits m (omega (arith, ap nat_abs i, above_lt n d s.some_denominator, s.small_denominator)) in
       ap (λ (k : ℕ). record { negative = false; numerator = k; denominator = d }) (ap nat_abs (same f ∙ i) ∙ ap (λ (z : ℤ). above_floor z d) ne)
 
--- ---- by code
+-- ---- by code: which operation each is, of a fraction, a zero and an infinity
 
 module _ (code : ℕ) (p : Parts) where
+  pub parts_reciprocal : code ≡ 3 → reciprocal_parts p ≡ exact_parts code p
+  unfolding exact_parts
+  parts_reciprocal e = rw (eq-eqb _ _ e) refl
+
+  module _ (n3 : code ≡ 3 → ⊥) where
+    pub parts_floor : code ≡ 4 → floor_parts p ≡ exact_parts code p
+    unfolding exact_parts
+    parts_floor e = rw (ne_eqb _ _ n3, eq-eqb _ _ e) refl
+
+    module _ (n4 : code ≡ 4 → ⊥) where
+      pub parts_ceiling : code ≡ 5 → ceiling_parts p ≡ exact_parts code p
+      unfolding exact_parts
+      parts_ceiling e = rw (ne_eqb _ _ n3, ne_eqb _ _ n4, eq-eqb _ _ e) refl
+
+      module _ (n5 : code ≡ 5 → ⊥) where
+        pub parts_mod : code ≡ 6 → mod_parts p ≡ exact_parts code p
+        unfolding exact_parts
+        parts_mod e = rw (ne_eqb _ _ n3, ne_eqb _ _ n4, ne_eqb _ _ n5, eq-eqb _ _ e) refl
+
+        pub parts_same : (code ≡ 6 → ⊥) → p ≡ exact_parts code p
+        unfolding exact_parts
+        parts_same n6 = rw (ne_eqb _ _ n3, ne_eqb _ _ n4, ne_eqb _ _ n5, ne_eqb _ _ n6) refl
+
   -- what holds of each way holds of the result
   by_code : (P : Parts → Type 0) → P (reciprocal_parts p) → P (floor_parts p) → P (ceiling_parts p) → (code ≡ 6 → P (mod_parts p)) → P p → P (exact_parts code p)
   unfolding exact_parts
@@ -175,6 +198,30 @@ module _ (code : ℕ) (p : Parts) where
       (λ t. if_case P (eqb code 4) _ _ (λ u. b) (λ u. if_case P (eqb code 5) _ _ (λ v. c) (λ v. if_case P (eqb code 6) _ _ (λ w. d (eqb-true _ _ w)) (λ w. e))))
 
 module _ (code : ℕ) (s : Bool) where
+  pub zero_reciprocal : code ≡ 3 → Infinity s ≡ exact_zero code s
+  unfolding exact_zero
+  zero_reciprocal e = rw (eq-eqb _ _ e) refl
+
+  pub zero_same : (code ≡ 3 → ⊥) → code ≡ 7 → Zero s ≡ exact_zero code s
+  unfolding exact_zero
+  zero_same n e = rw (ne_eqb _ _ n, eq-eqb _ _ e) refl
+
+  pub zero_plain : (code ≡ 3 → ⊥) → (code ≡ 7 → ⊥) → Zero false ≡ exact_zero code s
+  unfolding exact_zero
+  zero_plain n m = rw (ne_eqb _ _ n, ne_eqb _ _ m) refl
+
+  pub infinity_reciprocal : code ≡ 3 → Zero s ≡ exact_infinity code s
+  unfolding exact_infinity
+  infinity_reciprocal e = rw (eq-eqb _ _ e) refl
+
+  pub infinity_mod : (code ≡ 3 → ⊥) → code ≡ 6 → NotANumber ≡ exact_infinity code s
+  unfolding exact_infinity
+  infinity_mod n e = rw (ne_eqb _ _ n, eq-eqb _ _ e) refl
+
+  pub infinity_same : (code ≡ 3 → ⊥) → (code ≡ 6 → ⊥) → Infinity s ≡ exact_infinity code s
+  unfolding exact_infinity
+  infinity_same n m = rw (ne_eqb _ _ n, ne_eqb _ _ m) refl
+
   -- what holds of zeros, infinities and not-a-number holds of either
   by_case : (P : Value → Type 0) → ((t : Bool) → P (Zero t)) → ((t : Bool) → P (Infinity t)) → P NotANumber → P (exact_zero code s) × P (exact_infinity code s)
   unfolding exact_zero exact_infinity
