@@ -1,16 +1,16 @@
 -- Filling the lent lists. Assumes nothing.
 -- `filling_next`, `filling_end`: what the loop over the lines comes to. `load_filled`, `load_stopped`, `load-short`: what loading answers, and what the
 -- lists are then.
-use Rattle.std.proofs.Common.{◌≡◌, ℕ, zero, suc, ◌+◌, ◌-◌, ◌/◌, ◌%◌, ◌<◌, ◌≤◌, true, ◌&&◌, leb, List, [], ◌∷◌, ◌++◌, length, take, drop, set, sym, refl, ap, ◌∙◌, subst, append_assoc, add-one, arith, length-append, length-drop, length-set, drop-drop, take_at, drop_at, le-leb}
+use Rattle.std.proofs.Common.{◌≡◌, ℕ, zero, suc, ◌+◌, ◌-◌, ◌/◌, ◌%◌, ◌<◌, ◌≤◌, true, ◌&&◌, leb, List, [], ◌∷◌, ◌++◌, length, take, drop, set, sym, refl, ap, ◌∙◌, append_assoc, add-one, arith, length-append, length-drop, length-set, drop-drop, take_at, drop_at, le-leb}
 use mathlib.Core.Bool.{and-false}
 use native.Mathlib.Decide.{dec_lt, ℕ_discrete}
 use lib.Seq.{drop-append-le}
 use borrow.Author.Tests.{lt-leb}
-use Rattle.std.specs.Prelude.{if◌then◌else◌}
+use Rattle.std.specs.Prelude.{if◌then◌else◌, Ok, Err}
 use Rattle.convergents.specs.Pairs.{Pair}
 use Rattle.slash.specs.Answers.{Outcome, stop, done, ◌then◌}
 use Rattle.slash.specs.declared.answer.Stop.{Stop}
-use Rattle.slash.proofs.AnswerLaws.{done_inj, no_stop}
+use Rattle.slash.proofs.AnswerLaws.{done_inj, no_stop, then_stop}
 use Rattle.breaths.specs.Ratios.{ratio_of, fraction_of}
 use Rattle.breaths.specs.declared.ratio.Ratio.{Ratio}
 use Rattle.breaths.specs.declared.ratio.Ratio.TheVariants.{Void, Word}
@@ -26,7 +26,7 @@ use Rattle.text.proofs.PartLaws.{tail_is, free_append, free_drop, before_at}
 use Rattle.text.proofs.ScanLaws.{before_take}
 use Rattle.text.proofs.ColumnLaws.{shares_length, columns_long}
 use Rattle.text.proofs.LineLaws.{is_printable_lem, name_all, name_number, line_parts}
-use Rattle.shapes.specs.Fields.{every, is_whole, is_place, in_two, are_wholes, is_fraction, are_whole_and_place, is_decimal}
+use Rattle.shapes.specs.Fields.{is_whole, is_place, in_two, are_wholes, is_fraction, are_whole_and_place, is_decimal}
 use Rattle.shapes.specs.Words.{is_hex_digit, is_word, hex_value, hex_from, word_in}
 use Rattle.shapes.specs.Shapes.{is_named, are_columns, shape_of_fields, shape_of}
 use Rattle.shapes.proofs.ShapeLaws.{columns_free}
@@ -34,10 +34,9 @@ use Rattle.loading.specs.Listable.{listable, AllListable}
 use Rattle.loading.specs.Prints.{printed}
 use Rattle.loading.specs.Lines.{agreeing, in_sequence, entry_of}
 use Rattle.loading.specs.Loads.{Listing, load_from, load, Exactly}
-use Rattle.loading.specs.Fills.{where_fits, load_into, loaded_outcome, count_of, up_from, numbers_after, words_after}
+use Rattle.loading.specs.Fills.{where_fits, load_into, count_of, up_from, numbers_after, words_after}
 use Rattle.loading.specs.Steps.{word_from, words_in, numbers_in, Fits}
 use Rattle.loading.specs.declared.load.Counted.{Counted}
-use Rattle.loading.specs.declared.load.Loaded.{Loaded}
 use Rattle.loading.proofs.ListableLaws.{listable_small}
 use Rattle.loading.proofs.LineLaws.{digits_back, ratio_printable}
 use Rattle.loading.proofs.LoadLaws.{printed_from, printed_end, printed_more, load_only, exactly}
@@ -46,7 +45,7 @@ use Rattle.loading.proofs.LoadLaws.{printed_from, printed_end, printed_more, loa
 
 -- A word of sign 1 with lists of no place: 15 at line 1. (The bytes of 1, 80000000, 1/2 and 50.0, tab-parted, and of a line feed.)
 pub word_before_list : load_into (49 ∷ 9 ∷ 56 ∷ 48 ∷ 48 ∷ 48 ∷ 48 ∷ 48 ∷ 48 ∷ 48 ∷ 9 ∷ 49 ∷ 47 ∷ 50 ∷ 9 ∷ 53 ∷ 48 ∷ 46 ∷ 48 ∷ 10 ∷ []) 0 0 ≡ stop 15 1
-unfolding load_into load load_from parted shape_of shape_of_fields is_named is_whole every is_digit is_word is_hex_digit word_in hex_from hex_value in_two are_columns is_fraction are_wholes is_decimal are_whole_and_place is_place same name_text entry_of in_sequence agreeing decimal decimal_from listable is_printable
+unfolding load_into load load_from parted shape_of shape_of_fields is_named is_whole is_digit is_word is_hex_digit word_in hex_from hex_value in_two are_columns is_fraction are_wholes is_decimal are_whole_and_place is_place same name_text entry_of in_sequence agreeing decimal decimal_from listable is_printable
 word_before_list = refl
 
 -- On a stop a list is as it was.
@@ -392,24 +391,20 @@ pub record Listed (o : Outcome Listing) (c : Counted) : Type 0 where
 
 count_done : (o : Outcome Listing) (c : Counted) → done c ≡ count_of o → Listed o c
 unfolding count_of
-count_done (stop number place) c e = absurd (no_stop (sym e))
-count_done (done l) c e =
+count_done (Err s) c e = absurd (no_stop (sym e))
+count_done (Ok l) c e =
     let i : c ≡ record { breaths = length l.words; total = l.total } = done_inj e in
     record { listing = l; is = refl; count = ap (λ (x : Counted). x.breaths) i; total_is = ap (λ (x : Counted). x.total) i }
 
 -- what stopped counting stopped loading
-pub count_stop : (o : Outcome Listing) (number place : ℕ) → stop number place ≡ count_of o → o ≡ stop number place
+pub count_stop : {s : Stop} (o : Outcome Listing) → Err s ≡ count_of o → Err s ≡ o
 unfolding count_of
-count_stop (stop m q) number place e = stop_same e
-  where
-    stop_same : {i j k l : ℕ} → ◌≡◌ {A = Outcome Counted} (stop i j) (stop k l) → ◌≡◌ {A = Outcome Listing} (stop k l) (stop i j)
-    stop_same {i} {j} {k} {l} h = let x : i ≡ k = cc in let y : j ≡ l = cc in cc
-count_stop (done l) number place e = absurd (no_stop e)
+count_stop (Err t) e = cc
+count_stop (Ok l) e = absurd (no_stop e)
 
-pub load_fits : (text : List ℕ) (r : Loaded) → loaded_outcome r ≡ count_of (load text) → (c : Counted) → r ≡ Loaded.Done c
-    → (p q : ℕ) → c.breaths ≤ p → c.breaths ≤ q → Fits (load text) c.breaths p q
-load_fits text r h c e p q i j =
-    let l = count_done (load text) c (sym (ap loaded_outcome e) ∙ h) in
+pub load_fits : (text : List ℕ) (c : Counted) → done c ≡ count_of (load text) → (p q : ℕ) → c.breaths ≤ p → c.breaths ≤ q → Fits (load text) c.breaths p q
+load_fits text c e p q i j =
+    let l = count_done (load text) c e in
     record { listing = l.listing; is = l.is; counted = l.count; numbers_fit = omega (arith, l.count); words_fit = omega (arith, l.count) }
 
 -- what the contract says of an answer and of the lists behind it
@@ -420,73 +415,70 @@ Result text a b a' b' o =
     × ((b' ≡ words_after (load_into text (length a) (length b)) b) × Exactly text))
 
 module _ (text a b : List ℕ) where
-  stopped_as : (number place : ℕ) → load_into text (length a) (length b) ≡ stop number place → Result text a b a b (stop number place)
+  stopped_as : {s : Stop} → Err s ≡ load_into text (length a) (length b) → Result text a b a b (Err s)
   unfolding count_of numbers_after words_after list_after
-  stopped_as number place e =
-      (ap count_of (sym e), (ap (λ (o : Outcome Listing). numbers_after o a) (sym e), (ap (λ (o : Outcome Listing). words_after o b) (sym e), exactly text)))
+  stopped_as e =
+      (ap count_of e, (ap (λ (o : Outcome Listing). numbers_after o a) e, (ap (λ (o : Outcome Listing). words_after o b) e, exactly text)))
 
-  module _ (r : Loaded) (h : loaded_outcome r ≡ count_of (load text)) where
-    pub load_stopped : (s : Stop) → r ≡ Loaded.Stopped s → Result text a b a b (stop s.number s.place)
-    unfolding load_into
-    load_stopped s e =
-        stopped_as s.number s.place
-        (ap (λ (o : Outcome Listing). o then where_fits (length a) (length b)) (count_stop (load text) s.number s.place (sym (ap loaded_outcome e) ∙ h)))
+  pub load_stopped : {s : Stop} → Err s ≡ count_of (load text) → Result text a b a b (Err s)
+  unfolding load_into
+  load_stopped e = stopped_as (then_stop (where_fits (length a) (length b)) (count_stop (load text) e))
 
-    module _ (c : Counted) (e : r ≡ Loaded.Done c) where
-      given : Listed (load text) c
-      given = count_done (load text) c (sym (ap loaded_outcome e) ∙ h)
+  module _ (c : Counted) (e : done c ≡ count_of (load text)) where
+    given : Listed (load text) c
+    given = count_done (load text) c e
 
-      into : load_into text (length a) (length b)
-          ≡ (if leb (length given.listing.words) (length a) && leb (length given.listing.words) (length b) then done given.listing else stop 7 0)
-      unfolding load_into where_fits
-      into = ap (λ (o : Outcome Listing). o then where_fits (length a) (length b)) given.is
+    into : load_into text (length a) (length b)
+        ≡ (if leb (length given.listing.words) (length a) && leb (length given.listing.words) (length b) then done given.listing else stop 7 0)
+    unfolding load_into where_fits
+    into = ap (λ (o : Outcome Listing). o then where_fits (length a) (length b)) given.is
 
-      module _ (s : Stop) (se : s ≡ record { number = 7; place = 0 }) where
-        seven : load_into text (length a) (length b) ≡ stop 7 0 → Result text a b a b (stop s.number s.place)
-        seven i = subst (λ (t : Stop). Result text a b a b (stop t.number t.place)) (sym se) (stopped_as 7 0 i)
+    module _ {s : Stop} (se : s ≡ record { number = 7; place = 0 }) where
+      seven : load_into text (length a) (length b) ≡ stop 7 0 → Result text a b a b (Err s)
+      seven i = stopped_as (ap Err se ∙ sym i)
 
-        pub load_numbers : length a < c.breaths → Result text a b a b (stop s.number s.place)
-        load_numbers l =
-            let m : length a < length given.listing.words = omega (arith, given.count) in
-            seven (into ∙ rw (lt-leb _ _ m) refl)
+      pub load_numbers : length a < c.breaths → Result text a b a b (Err s)
+      load_numbers l =
+          let m : length a < length given.listing.words = omega (arith, given.count) in
+          seven (into ∙ rw (lt-leb _ _ m) refl)
 
-        pub load_words : length b < c.breaths → Result text a b a b (stop s.number s.place)
-        load_words l =
-            let m : length b < length given.listing.words = omega (arith, given.count) in
-            seven (into ∙ rw (lt-leb _ _ m, and-false (leb (length given.listing.words) (length a))) refl)
+      pub load_words : length b < c.breaths → Result text a b a b (Err s)
+      load_words l =
+          let m : length b < length given.listing.words = omega (arith, given.count) in
+          seven (into ∙ rw (lt-leb _ _ m, and-false (leb (length given.listing.words) (length a))) refl)
 
-      module _ (p : c.breaths ≤ length a) (q : c.breaths ≤ length b) where
-        numbers_fit : length given.listing.words ≤ length a
-        numbers_fit = omega (arith, given.count)
+    module _ (p : c.breaths ≤ length a) (q : c.breaths ≤ length b) where
+      numbers_fit : length given.listing.words ≤ length a
+      numbers_fit = omega (arith, given.count)
 
-        words_fit : length given.listing.words ≤ length b
-        words_fit = omega (arith, given.count)
+      words_fit : length given.listing.words ≤ length b
+      words_fit = omega (arith, given.count)
 
-        goes_in : load_into text (length a) (length b) ≡ done given.listing
-        goes_in = into ∙ rw (le-leb _ _ numbers_fit, le-leb _ _ words_fit) refl
+      goes_in : load_into text (length a) (length b) ≡ done given.listing
+      goes_in = into ∙ rw (le-leb _ _ numbers_fit, le-leb _ _ words_fit) refl
 
-        up_length : (n m : ℕ) → length (up_from n m) ≡ m
-        unfolding up_from
-        up_length n zero = refl
-        up_length n (suc m) = ap suc (up_length (suc n) m)
+      up_length : (n m : ℕ) → length (up_from n m) ≡ m
+      unfolding up_from
+      up_length n zero = refl
+      up_length n (suc m) = ap suc (up_length (suc n) m)
 
-        pub load_filled : (a' b' : List ℕ) → (a' ≡ put a 0 (numbers_in (load text))) × (b' ≡ put b 0 (words_in (load text)))
-            → Result text a b a' b' (done c)
-        unfolding count_of numbers_after words_after list_after
-        load_filled a' b' f =
-            let ws : List ℕ = given.listing.words in
-            let ns : List ℕ = up_from 1 (length ws) in
-            let i : length ns ≤ length a = omega (arith, up_length 1 (length ws), numbers_fit) in (
-              ap (λ (k : ℕ). done (record { breaths = k; total = c.total })) given.count
-                  ∙ ap (λ (k : ℕ). done (record { breaths = length ws; total = k })) given.total_is
-                  ∙ ap count_of (sym goes_in),
+      pub load_filled : (a' b' : List ℕ) → (a' ≡ put a 0 (numbers_in (load text))) × (b' ≡ put b 0 (words_in (load text)))
+          → Result text a b a' b' (done c)
+      unfolding count_of numbers_after words_after list_after
+      load_filled a' b' f =
+          let ws : List ℕ = given.listing.words in
+          let ns : List ℕ = up_from 1 (length ws) in
+          let i : length ns ≤ length a = omega (arith, up_length 1 (length ws), numbers_fit) in (
+            ap (λ (k : ℕ). done (record { breaths = k; total = c.total })) given.count
+                ∙ ap (λ (k : ℕ). done (record { breaths = length ws; total = k })) given.total_is
+                ∙ ap count_of (sym goes_in),
+            (
+              f.0 ∙ ap (put a 0) (numbers_in_lem (load text) given.listing given.is) ∙ put_front a ns i
+                  ∙ ap (λ (o : Outcome Listing). numbers_after o a) (sym goes_in),
               (
-                f.0 ∙ ap (put a 0) (numbers_in_lem (load text) given.listing given.is) ∙ put_front a ns i
-                    ∙ ap (λ (o : Outcome Listing). numbers_after o a) (sym goes_in),
-                (
-                  f.1 ∙ ap (put b 0) (words_in_lem (load text) given.listing given.is) ∙ put_front b ws words_fit
-                      ∙ ap (λ (o : Outcome Listing). words_after o b) (sym goes_in),
-                  exactly text,
-                ),
+                f.1 ∙ ap (put b 0) (words_in_lem (load text) given.listing given.is) ∙ put_front b ws words_fit
+                    ∙ ap (λ (o : Outcome Listing). words_after o b) (sym goes_in),
+                exactly text,
               ),
-            )
+            ),
+          )

@@ -1,17 +1,18 @@
 -- A line of a listing. Assumes nothing.
 -- `entry_breath`, `entry_total`: a printed line is taken, as its word. `entry_only`: and no other line is. `there_agrees`: a text begins with a
 -- printed line just where its first line, and the line feed behind it, is that line.
-use Rattle.std.proofs.Common.{◌≡◌, ℕ, zero, suc, ◌+◌, ◌-◌, ◌*◌, ◌/◌, ◌%◌, ◌^◌, ◌<◌, ◌≤◌, Bool, true, false, not, ◌&&◌, eqb, leb, List, [], ◌∷◌, ◌++◌, length, get_or, take, drop, set, sym, refl, ap, ◌∙◌, subst, append_assoc, add-zero, add-suc, mod-lt, pow-suc, zero-add, add-one, arith, length-append, length-set, take-append-drop, length-take, length-take-le, take_all, drop-cons, take-suc, take-take, take-suc-set, take_at, eq-eqb, ne_eqb, le-leb, leb-true}
+use Rattle.std.proofs.Common.{◌≡◌, ℕ, zero, suc, ◌+◌, ◌-◌, ◌*◌, ◌/◌, ◌%◌, ◌^◌, ◌<◌, ◌≤◌, Bool, true, false, ◌&&◌, eqb, leb, List, [], ◌∷◌, ◌++◌, length, get_or, take, drop, set, sym, refl, ap, ◌∙◌, subst, append_assoc, add-zero, add-suc, mod-lt, pow-suc, zero-add, add-one, arith, length-append, length-set, take-append-drop, length-take, length-take-le, take_all, drop-cons, take-suc, take-take, take-suc-set, take_at, eq-eqb, ne_eqb, le-leb, leb-true}
 use mathlib.Core.Bool.{and-true, and-false, false≢true}
 use native.Mathlib.Nat.{pow-le-pow_right}
 use native.Mathlib.Decide.{dec_lt, ℕ_discrete}
 use lib.Seq.{take-length}
-use borrow.Author.Tests.{lt-leb, eqb-false, not-true, not-false}
-use Rattle.std.specs.Prelude.{if◌then◌else◌}
+use borrow.Author.Tests.{lt-leb, eqb-false}
+use Rattle.std.specs.Prelude.{if◌then◌else◌, Option, Some, None, Err}
 use Rattle.convergents.specs.Pairs.{differs}
 use Rattle.convergents.specs.Convergents.{euclid, quotients, recurrence, convergents}
 use Rattle.convergents.specs.Rounding.{held, last_held, round}
 use Rattle.slash.specs.Answers.{Outcome, stop, done}
+use Rattle.slash.specs.declared.answer.Stop.{Stop}
 use Rattle.slash.specs.Bits.{bits, bit, bit_of, word_of_fields}
 use Rattle.slash.specs.Formats.{holds}
 use Rattle.slash.specs.Reading.{fixed_value, fixed_number, number_of}
@@ -32,17 +33,16 @@ use Rattle.text.specs.declared.line.Name.TheVariants.{Number, All}
 use Rattle.text.proofs.NumberLaws.{decimal_small, decimal_more, decimal_length, put_front, stored_length}
 use Rattle.text.proofs.PartLaws.{and_parted, same_refl, same_is, same_not, same_differ, before_at, at_before}
 use Rattle.text.proofs.LineLaws.{name_number, name_all, line_parts, line_is, printable_is, is_printable_lem, most_bytes_lem}
-use Rattle.shapes.specs.Fields.{every, is_whole, is_place, in_two, are_wholes, is_fraction, are_whole_and_place, is_decimal}
+use Rattle.shapes.specs.Fields.{is_whole, is_place, in_two, are_wholes, is_fraction, are_whole_and_place, is_decimal}
 use Rattle.shapes.specs.Words.{is_hex_digit, is_word, hex_value, hex_from, word_in}
 use Rattle.shapes.specs.Shapes.{is_named, are_columns, shape_of_fields, shape_of}
 use Rattle.shapes.specs.declared.shape.Said.{Said}
-use Rattle.shapes.specs.declared.shape.Shape.{Shape}
-use Rattle.shapes.specs.declared.shape.Shape.TheVariants.{Line, Other}
 use Rattle.shapes.proofs.FieldLaws.{whole_decimal}
 use Rattle.shapes.proofs.WordLaws.{hex_low, hex_high}
 use Rattle.shapes.proofs.ShapeLaws.{body_of, line_shaped, line_free, name_within}
 use Rattle.loading.specs.Listable.{is_canonical, listable}
-use Rattle.loading.specs.Lines.{Entry, breath, total, agreeing, total_at, in_sequence, entry_of}
+use Rattle.loading.specs.declared.line.Entry.{Entry}
+use Rattle.loading.specs.Lines.{agreeing, total_at, in_sequence, entry_of}
 use Rattle.loading.specs.Steps.{digit_value, word_from, begins, line_there}
 use Rattle.loading.proofs.ListableLaws.{listable_zero, listable_small, listable_printable}
 
@@ -51,17 +51,17 @@ use Rattle.loading.proofs.ListableLaws.{listable_zero, listable_small, listable_
 -- `all` as the first line, of another total than void: 14. (The bytes of all, 00010002, 1/2 and 50.0, tab-parted. What makes and prints a word
 -- is unfolded so that a definition which takes this line is shown to take it.)
 pub other_total_first : (let line : List ℕ = 97 ∷ 108 ∷ 108 ∷ 9 ∷ 48 ∷ 48 ∷ 48 ∷ 49 ∷ 48 ∷ 48 ∷ 48 ∷ 50 ∷ 9 ∷ 49 ∷ 47 ∷ 50 ∷ 9 ∷ 53 ∷ 48 ∷ 46 ∷ 48 ∷ [] in entry_of 1 (shape_of line) line ≡ stop 14 1)
-unfolding shape_of shape_of_fields parted is_named is_whole every is_digit is_word is_hex_digit word_in hex_from hex_value in_two are_columns is_fraction are_wholes is_decimal are_whole_and_place is_place same name_text entry_of in_sequence total_at decimal decimal_from listable is_printable is_canonical ratio_of fraction_of line_of columns hexadecimal hex_digit fraction_and_percentage fraction_text percentage thousandths word_of word_for pair_word fixed_word word_of_fields bit_of pair_of number_of fixed_number fixed_value bits bit round last_held held convergents recurrence quotients euclid differs holds
+unfolding shape_of shape_of_fields parted is_named is_whole is_digit is_word is_hex_digit word_in hex_from hex_value in_two are_columns is_fraction are_wholes is_decimal are_whole_and_place is_place same name_text entry_of in_sequence total_at decimal decimal_from listable is_printable is_canonical ratio_of fraction_of line_of columns hexadecimal hex_digit fraction_and_percentage fraction_text percentage thousandths word_of word_for pair_word fixed_word word_of_fields bit_of pair_of number_of fixed_number fixed_value bits bit round last_held held convergents recurrence quotients euclid differs holds
 other_total_first = refl
 
 -- The void one: taken. (Those of all, 00000000 and two hyphens.)
-pub void_total_first : (let line : List ℕ = 97 ∷ 108 ∷ 108 ∷ 9 ∷ 48 ∷ 48 ∷ 48 ∷ 48 ∷ 48 ∷ 48 ∷ 48 ∷ 48 ∷ 9 ∷ 45 ∷ 9 ∷ 45 ∷ [] in entry_of 1 (shape_of line) line ≡ done (total 0))
-unfolding shape_of shape_of_fields parted is_named is_whole every is_digit is_word is_hex_digit word_in hex_from hex_value in_two are_columns same name_text entry_of in_sequence total_at listable ratio_of line_of columns hexadecimal hex_digit fraction_and_percentage word_of
+pub void_total_first : (let line : List ℕ = 97 ∷ 108 ∷ 108 ∷ 9 ∷ 48 ∷ 48 ∷ 48 ∷ 48 ∷ 48 ∷ 48 ∷ 48 ∷ 48 ∷ 9 ∷ 45 ∷ 9 ∷ 45 ∷ [] in entry_of 1 (shape_of line) line ≡ done (Entry.Total 0))
+unfolding shape_of shape_of_fields parted is_named is_whole is_digit is_word is_hex_digit word_in hex_from hex_value in_two are_columns same name_text entry_of in_sequence total_at listable ratio_of line_of columns hexadecimal hex_digit fraction_and_percentage word_of
 void_total_first = refl
 
 -- The line of a void breath with a fraction: 15. (The bytes of 1, 00000000, 0/1 and 0.0, tab-parted.)
 pub void_with_a_fraction : (let line : List ℕ = 49 ∷ 9 ∷ 48 ∷ 48 ∷ 48 ∷ 48 ∷ 48 ∷ 48 ∷ 48 ∷ 48 ∷ 9 ∷ 48 ∷ 47 ∷ 49 ∷ 9 ∷ 48 ∷ 46 ∷ 48 ∷ [] in entry_of 1 (shape_of line) line ≡ stop 15 1)
-unfolding shape_of shape_of_fields parted is_named is_whole every is_digit is_word is_hex_digit word_in hex_from hex_value in_two are_columns is_fraction are_wholes is_decimal are_whole_and_place is_place same name_text entry_of in_sequence agreeing decimal decimal_from listable ratio_of line_of columns hexadecimal hex_digit fraction_and_percentage word_of
+unfolding shape_of shape_of_fields parted is_named is_whole is_digit is_word is_hex_digit word_in hex_from hex_value in_two are_columns is_fraction are_wholes is_decimal are_whole_and_place is_place same name_text entry_of in_sequence agreeing decimal decimal_from listable ratio_of line_of columns hexadecimal hex_digit fraction_and_percentage word_of
 void_with_a_fraction = refl
 
 -- ---- a printed line is taken
@@ -88,10 +88,10 @@ module _ (n w : ℕ) (l : listable w ≡ true) where
   unfolding agreeing
   agreed name e = rw (l, body_line name (ratio_of w), same_refl (line_of name (ratio_of w))) refl
 
-  shaped : (name : Name) → shape_of (body_of name (ratio_of w)) ≡ Line (record { name = length (name_text name); word = w })
+  shaped : (name : Name) → shape_of (body_of name (ratio_of w)) ≡ Some (record { name = length (name_text name); word = w })
   shaped name =
       line_shaped name (ratio_of w) small
-      ∙ ap (λ (v : ℕ). Line (record { name = length (name_text name); word = v })) (word_of_ratio w)
+      ∙ ap (λ (v : ℕ). Some (record { name = length (name_text name); word = v })) (word_of_ratio w)
 
   named : (name : Name) → take (length (name_text name)) (body_of name (ratio_of w)) ≡ name_text name
   named name =
@@ -101,36 +101,36 @@ module _ (n w : ℕ) (l : listable w ≡ true) where
   in_entry : (name : Name) → entry_of n (shape_of (body_of name (ratio_of w))) (body_of name (ratio_of w)) ≡ in_sequence n (body_of name (ratio_of w)) (name_text name) w
   unfolding entry_of
   in_entry name =
-      ap (λ (s : Shape). entry_of n s (body_of name (ratio_of w))) (shaped name)
+      ap (λ (s : Option Said). entry_of n s (body_of name (ratio_of w))) (shaped name)
       ∙ ap (λ (u : List ℕ). in_sequence n (body_of name (ratio_of w)) u w) (named name)
 
-  pub entry_breath : n ≤ 65536 → entry_of n (shape_of (body_of (Number n) (ratio_of w))) (body_of (Number n) (ratio_of w)) ≡ done (breath w)
+  pub entry_breath : n ≤ 65536 → entry_of n (shape_of (body_of (Number n) (ratio_of w))) (body_of (Number n) (ratio_of w)) ≡ done (Entry.Breath w)
   unfolding in_sequence
   entry_breath h =
-      in_entry (Number n) ∙ rw (number_not_all n, same_refl (name_text (Number n)), le-leb _ _ h) (agreed (Number n) (breath w))
+      in_entry (Number n) ∙ rw (number_not_all n, same_refl (name_text (Number n)), le-leb _ _ h) (agreed (Number n) (Entry.Breath w))
 
   -- the first line's total is void
-  total_good : (n ≡ 1 → w ≡ 0) → total_at n (body_of All (ratio_of w)) w ≡ done (total w)
+  total_good : (n ≡ 1 → w ≡ 0) → total_at n (body_of All (ratio_of w)) w ≡ done (Entry.Total w)
   unfolding total_at
   total_good h = go (ℕ_discrete n 1)
     where
       go : Dec (n ≡ 1)
-          → (if eqb n 1 then (if same (body_of All (ratio_of w) ++ line_feed) (line_of All Void) then done (total 0) else stop 14 n) else agreeing n (body_of All (ratio_of w)) All w (total w))
-          ≡ done (total w)
+          → (if eqb n 1 then (if same (body_of All (ratio_of w) ++ line_feed) (line_of All Void) then done (Entry.Total 0) else stop 14 n) else agreeing n (body_of All (ratio_of w)) All w (Entry.Total w))
+          ≡ done (Entry.Total w)
       go (yes e) =
           let line : body_of All (ratio_of w) ++ line_feed ≡ line_of All Void = body_line All (ratio_of w) ∙ ap (line_of All) (sym (of_zero w (h e))) in
-          rw (eq-eqb n 1 e, line, same_refl (line_of All Void)) (ap (λ (v : ℕ). done (total v)) (sym (h e)))
-      go (no e) = rw (ne_eqb n 1 e) (agreed All (total w))
+          rw (eq-eqb n 1 e, line, same_refl (line_of All Void)) (ap (λ (v : ℕ). done (Entry.Total v)) (sym (h e)))
+      go (no e) = rw (ne_eqb n 1 e) (agreed All (Entry.Total w))
 
-  pub entry_total : (n ≡ 1 → w ≡ 0) → entry_of n (shape_of (body_of All (ratio_of w))) (body_of All (ratio_of w)) ≡ done (total w)
+  pub entry_total : (n ≡ 1 → w ≡ 0) → entry_of n (shape_of (body_of All (ratio_of w))) (body_of All (ratio_of w)) ≡ done (Entry.Total w)
   unfolding in_sequence
   entry_total h = in_entry All ∙ rw (same_refl (name_text All)) (total_good h)
 
 -- ---- and no other is
 
 abbrev pub Taken : ℕ → List ℕ → Entry → Type 0
-Taken n line (breath w) = (line ++ line_feed ≡ line_of (Number n) (ratio_of w)) × (listable w ≡ true) × (n ≤ 65536)
-Taken n line (total w) = (line ++ line_feed ≡ line_of All (ratio_of w)) × (listable w ≡ true) × (n ≡ 1 → w ≡ 0)
+Taken n line (Entry.Breath w) = (line ++ line_feed ≡ line_of (Number n) (ratio_of w)) × (listable w ≡ true) × (n ≤ 65536)
+Taken n line (Entry.Total w) = (line ++ line_feed ≡ line_of All (ratio_of w)) × (listable w ≡ true) × (n ≡ 1 → w ≡ 0)
 
 agreeing_only : (n : ℕ) (line : List ℕ) (name : Name) (w : ℕ) (e f : Entry) → agreeing n line name w e ≡ done f
     → (e ≡ f) × (listable w ≡ true) × (line ++ line_feed ≡ line_of name (ratio_of w))
@@ -148,14 +148,14 @@ unfolding total_at
 total_only n line w e h = go (eqb n 1) refl (same (line ++ line_feed) (line_of All Void)) refl h
   where
     go : (t : Bool) → eqb n 1 ≡ t → (s : Bool) → same (line ++ line_feed) (line_of All Void) ≡ s
-        → (if t then (if s then done (total 0) else stop 14 n) else agreeing n line All w (total w)) ≡ done e
+        → (if t then (if s then done (Entry.Total 0) else stop 14 n) else agreeing n line All w (Entry.Total w)) ≡ done e
         → Taken n line e
     go true j true i g =
         let void : line ++ line_feed ≡ line_of All (ratio_of 0) = same_is _ _ i ∙ ap (line_of All) (of_zero 0 refl) in
         subst (Taken n line) (done_inj g) (void, sym (listable_zero 0 refl), λ o. refl)
     go true j false i g = absurd (no_stop g)
     go false j s i g =
-        let x = agreeing_only n line All w (total w) e g in
+        let x = agreeing_only n line All w (Entry.Total w) e g in
         subst (Taken n line) x.0 (x.2, x.1, λ o. absurd (eqb-false n 1 j o))
 
 sequence_only : (n : ℕ) (line a : List ℕ) (w : ℕ) (e : Entry) → in_sequence n line a w ≡ done e → Taken n line e
@@ -163,26 +163,26 @@ unfolding in_sequence
 sequence_only n line a w e h = go (same a (name_text All)) (same a (name_text (Number n))) (leb n 65536) refl h
   where
     go : (s u v : Bool) → leb n 65536 ≡ v
-        → (if s then total_at n line w else (if u && v then agreeing n line (Number n) w (breath w) else stop 14 n)) ≡ done e
+        → (if s then total_at n line w else (if u && v then agreeing n line (Number n) w (Entry.Breath w) else stop 14 n)) ≡ done e
         → Taken n line e
     go true u v m g = total_only n line w e g
     go false true true m g =
-        let x = agreeing_only n line (Number n) w (breath w) e g in
+        let x = agreeing_only n line (Number n) w (Entry.Breath w) e g in
         subst (Taken n line) x.0 (x.2, x.1, leb-true _ _ m)
     go false true false m g = absurd (no_stop g)
     go false false v m g = absurd (no_stop g)
 
-pub entry_only : (n : ℕ) (s : Shape) (line : List ℕ) (e : Entry) → entry_of n s line ≡ done e → Taken n line e
+pub entry_only : (n : ℕ) (s : Option Said) (line : List ℕ) (e : Entry) → entry_of n s line ≡ done e → Taken n line e
 unfolding entry_of
-entry_only n Other line e h = absurd (no_stop h)
-entry_only n (Line x) line e h = sequence_only n line (take x.name line) x.word e h
+entry_only n None line e h = absurd (no_stop h)
+entry_only n (Some x) line e h = sequence_only n line (take x.name line) x.word e h
 
 -- `all` as the first line, which has the shape and isn't that of no breaths: 14.
-pub first_other : (line : List ℕ) (x : Said) → shape_of line ≡ Line x → take x.name line ≡ name_text All → (line ++ line_feed ≡ line_of All Void → ⊥)
+pub first_other : (line : List ℕ) (x : Said) → shape_of line ≡ Some x → take x.name line ≡ name_text All → (line ++ line_feed ≡ line_of All Void → ⊥)
     → entry_of 1 (shape_of line) line ≡ stop 14 1
 unfolding entry_of in_sequence total_at
 first_other line x s n d =
-    ap (λ (y : Shape). entry_of 1 y line) s ∙ ap (λ (u : List ℕ). in_sequence 1 line u x.word) n
+    ap (λ (y : Option Said). entry_of 1 y line) s ∙ ap (λ (u : List ℕ). in_sequence 1 line u x.word) n
     ∙ rw (same_refl (name_text All), same_differ (line ++ line_feed) (line_of All Void) d) refl
 
 -- ---- how many digits a number has
@@ -416,15 +416,15 @@ ratio_printable w l = go (ℕ_discrete w 0)
     go (yes z) = ap is_printable (sym (of_zero w z)) ∙ printable_is Void tt
     go (no z) = ap is_printable (sym (of_some w z)) ∙ listable_printable w l z
 
-module _ (text : List ℕ) (name : Name) (w : ℕ) (named : is_name name ≡ true) (t : Bool) (te : t ≡ listable w) where
-  pub there_not : not t ≡ true → 0 ≡ line_there text name w
+module _ (text : List ℕ) (name : Name) (w : ℕ) where
+  pub there_not : false ≡ listable w → None ≡ line_there text name w
   unfolding line_there begins
-  there_not n = rw (← te, not-true t n) refl
+  there_not e = rw (← e) refl
 
-  module _ (n : not t ≡ false) (o o' : List ℕ) (k : ℕ) (long : length o ≡ 33) (r : Ratio) (re : r ≡ ratio_of w)
+  module _ (named : is_name name ≡ true) (te : true ≡ listable w) (o o' : List ℕ) (k : ℕ) (long : length o ≡ 33) (r : Ratio) (re : r ≡ ratio_of w)
       (s : Stored o 0 (line_in (length o - 0) name r) o' k) where
     l : listable w ≡ true
-    l = sym te ∙ not-false t n
+    l = sym te
 
     abbrev line : List ℕ
     line = line_of name (ratio_of w)
@@ -450,20 +450,19 @@ module _ (text : List ℕ) (name : Name) (w : ℕ) (named : is_name name ≡ tru
     unfolding begins
     begins_is b e = rw l (ap (λ (i : ℕ). same (take i text) line) (sym there_length) ∙ e)
 
-    pub there_short : length text < k → 0 ≡ line_there text name w
+    pub there_short : length text < k → None ≡ line_there text name w
     unfolding line_there
     there_short h =
         let differ : length (take k text) ≡ length line → ⊥ = λ e. omega (arith, length-take k text, there_length) in
         rw (begins_is false (sym (same_not _ _ differ))) refl
 
-    module _ (u : Bool) (ue : u ≡ same (take k text) (take k o')) where
-      pub there_differs : not u ≡ true → 0 ≡ line_there text name w
-      unfolding line_there
-      there_differs m = rw (begins_is false (ap (same (take k text)) (sym there_line) ∙ sym ue ∙ not-true u m)) refl
+    pub there_differs : false ≡ same (take k text) (take k o') → None ≡ line_there text name w
+    unfolding line_there
+    there_differs e = rw (begins_is false (ap (same (take k text)) (sym there_line) ∙ sym e)) refl
 
-      pub there_same : not u ≡ false → k ≡ line_there text name w
-      unfolding line_there
-      there_same m = there_length ∙ rw (begins_is true (ap (same (take k text)) (sym there_line) ∙ sym ue ∙ not-false u m)) refl
+    pub there_same : true ≡ same (take k text) (take k o') → Some k ≡ line_there text name w
+    unfolding line_there
+    there_same e = ap Some there_length ∙ rw (begins_is true (ap (same (take k text)) (sym there_line) ∙ sym e)) refl
 
 -- ---- the same where the longest line has room
 
@@ -493,7 +492,7 @@ module _ {text bytes : List ℕ} {i : ℕ} (c : Copying text bytes i) (big : 33 
       sym (take_all 33 bytes (omega (arith, c.long))) ∙ ap (λ (j : ℕ). take j bytes) (sym e) ∙ c.first ∙ ap (λ (j : ℕ). take j text) e
 
 module _ (text : List ℕ) (big : 33 ≤ length text) (name : Name) (w : ℕ) (named : is_name name ≡ true) (o o' : List ℕ) (k : ℕ) (oe : o ≡ take 33 text)
-    (r : Ratio) (re : r ≡ ratio_of w) (s : Stored o 0 (line_in (length o - 0) name r) o' k) (u : Bool) (ue : u ≡ same (take 33 text) o') where
+    (r : Ratio) (re : r ≡ ratio_of w) (s : Stored o 0 (line_in (length o - 0) name r) o' k) where
   window_long : length o ≡ 33
   window_long = ap length oe ∙ length-take-le 33 text big
 
@@ -512,53 +511,51 @@ module _ (text : List ℕ) (big : 33 ≤ length text) (name : Name) (w : ℕ) (n
         s.bytes ∙ ap (put o 0) shown_is ∙ put_front o shown (omega (arith, shown_short, window_long))
         ∙ ap (λ (v : List ℕ). shown ++ drop (length shown) v) oe
 
-    begins_window : begins text name w ≡ u
+    begins_window : begins text name w ≡ same (take 33 text) o'
     unfolding begins
     begins_window =
         rw l (both _ _
-        (λ e. ue ∙ ap (same (take 33 text)) (window_is ∙ ap (λ (v : List ℕ). v ++ drop (length shown) (take 33 text)) (sym (same_is _ _ e) ∙ sym (take-take (length shown) 33 text shown_short)) ∙ take-append-drop (length shown) (take 33 text)) ∙ same_refl (take 33 text))
+        (λ e. ap (same (take 33 text)) (window_is ∙ ap (λ (v : List ℕ). v ++ drop (length shown) (take 33 text)) (sym (same_is _ _ e) ∙ sym (take-take (length shown) 33 text shown_short)) ∙ take-append-drop (length shown) (take 33 text)) ∙ same_refl (take 33 text))
         (λ e. subst (λ (v : List ℕ). same v shown ≡ true) (sym (first e)) (same_refl shown)))
       where
-        first : u ≡ true → take (length shown) text ≡ shown
+        first : same (take 33 text) o' ≡ true → take (length shown) text ≡ shown
         first e =
-            let whole : take 33 text ≡ o' = same_is _ _ (sym ue ∙ e) in
+            let whole : take 33 text ≡ o' = same_is _ _ e in
             sym (take-take (length shown) 33 text shown_short) ∙ ap (take (length shown)) (whole ∙ window_is)
             ∙ take_at shown (drop (length shown) (take 33 text)) (length shown) refl
 
-  pub window_differs : not u ≡ true → 0 ≡ line_there text name w
+  pub window_differs : false ≡ same (take 33 text) o' → None ≡ line_there text name w
   unfolding line_there
-  window_differs n = go (listable w) refl
+  window_differs d = go (listable w) refl
     where
-      go : (b : Bool) → listable w ≡ b → 0 ≡ (if begins text name w then length (line_of name (ratio_of w)) else 0)
-      go true e = rw (begins_window e, not-true u n) refl
+      go : (b : Bool) → listable w ≡ b → None ≡ (if begins text name w then Some (length (line_of name (ratio_of w))) else None)
+      go true e = rw (begins_window e, ← d) refl
       go false e = rw (not_begins text name w e) refl
 
-  pub window_same : not u ≡ false → (t : Bool) → t ≡ listable w → not t ≡ false → k ≡ line_there text name w
+  pub window_same : true ≡ same (take 33 text) o' → true ≡ listable w → Some k ≡ line_there text name w
   unfolding line_there
-  window_same n t te m =
-      let l : listable w ≡ true = sym te ∙ not-false t m in
-      s.next ∙ zero-add _ ∙ ap length (shown_is l) ∙ rw (begins_window l, not-false u n) refl
+  window_same u e =
+      let l : listable w ≡ true = sym e in
+      ap Some (s.next ∙ zero-add _ ∙ ap length (shown_is l)) ∙ rw (begins_window l, ← u) refl
 
--- ---- what its answer says: 0 where the text begins otherwise
+-- ---- what its answer says
 
-module _ (text : List ℕ) (name : Name) (w r : ℕ) (re : r ≡ line_there text name w) where
-  of_case : (b : Bool) → begins text name w ≡ b → r ≡ (if b then length (line_of name (ratio_of w)) else 0)
+module _ (text : List ℕ) (name : Name) (w : ℕ) where
+  pub there_none : None ≡ line_there text name w → begins text name w ≡ false
   unfolding line_there
-  of_case b e = re ∙ rw e refl
-
-  pub there_none : r ≡ 0 → begins text name w ≡ false
-  there_none z = go (begins text name w) refl
+  there_none e = go (begins text name w) refl
     where
       go : (b : Bool) → begins text name w ≡ b → begins text name w ≡ false
-      go false e = e
-      go true e = absurd (omega (arith, of_case true e, line_long name (ratio_of w)))
+      go false h = h
+      go true h = let z : ◌≡◌ {A = Option ℕ} None (Some (length (line_of name (ratio_of w)))) = e ∙ rw h refl in cc
 
-  pub there_some : (r ≡ 0 → ⊥) → (begins text name w ≡ true) × (r ≡ length (line_of name (ratio_of w)))
-  there_some n = go (begins text name w) refl
+  pub there_some : {r : ℕ} → Some r ≡ line_there text name w → (begins text name w ≡ true) × (r ≡ length (line_of name (ratio_of w)))
+  unfolding line_there
+  there_some {r} e = go (begins text name w) refl
     where
       go : (b : Bool) → begins text name w ≡ b → (begins text name w ≡ true) × (r ≡ length (line_of name (ratio_of w)))
-      go true e = (e, of_case true e)
-      go false e = absurd (n (of_case false e))
+      go true h = let z : ◌≡◌ {A = Option ℕ} (Some r) (Some (length (line_of name (ratio_of w)))) = e ∙ rw h refl in (h, cc)
+      go false h = let z : ◌≡◌ {A = Option ℕ} (Some r) None = e ∙ rw h refl in cc
 
 -- ---- a line in its sequence
 
@@ -568,7 +565,7 @@ module _ (text : List ℕ) (k : ℕ) (ke : k ≡ length_before 10 text) (within 
   agreed_as name e b h = rw (← there_agrees text k ke within name w, h) refl
 
   -- `all` as the first line
-  module _ (e : n ≡ 1) (r : ℕ) (re : r ≡ line_there text All 0) where
+  module _ (e : n ≡ 1) where
     void_as : (b : Bool) → begins text All 0 ≡ b → same (take k text ++ line_feed) (line_of All Void) ≡ b
     void_as b h =
         let agrees : begins text All 0 ≡ same (take k text ++ line_feed) (line_of All (ratio_of 0)) =
@@ -576,25 +573,25 @@ module _ (text : List ℕ) (k : ℕ) (ke : k ≡ length_before 10 text) (within 
         in
         ap (λ (x : Ratio). same (take k text ++ line_feed) (line_of All x)) (of_zero 0 refl) ∙ sym agrees ∙ h
 
-    pub total_first_not : r ≡ 0 → stop 14 n ≡ total_at n (take k text) w
+    pub total_first_not : None ≡ line_there text All 0 → stop 14 n ≡ total_at n (take k text) w
     unfolding total_at
-    total_first_not z = sym (rw (eq-eqb n 1 e, void_as false (there_none text All 0 r re z)) refl)
+    total_first_not z = sym (rw (eq-eqb n 1 e, void_as false (there_none text All 0 z)) refl)
 
-    pub total_first : (r ≡ 0 → ⊥) → done (total 0) ≡ total_at n (take k text) w
+    pub total_first : {r : ℕ} → Some r ≡ line_there text All 0 → done (Entry.Total 0) ≡ total_at n (take k text) w
     unfolding total_at
-    total_first z = sym (rw (eq-eqb n 1 e, void_as true (there_some text All 0 r re z).0) refl)
+    total_first z = sym (rw (eq-eqb n 1 e, void_as true (there_some text All 0 z).0) refl)
 
   -- and behind a breath's
-  module _ (m : n ≡ 1 → ⊥) (r : ℕ) (re : r ≡ line_there text All w) where
-    of_total : total_at n (take k text) w ≡ agreeing n (take k text) All w (total w)
+  module _ (m : n ≡ 1 → ⊥) where
+    of_total : total_at n (take k text) w ≡ agreeing n (take k text) All w (Entry.Total w)
     unfolding total_at
     of_total = rw (ne_eqb n 1 m) refl
 
-    pub total_later_not : r ≡ 0 → stop 15 n ≡ total_at n (take k text) w
-    total_later_not z = sym (of_total ∙ agreed_as All (total w) false (there_none text All w r re z))
+    pub total_later_not : None ≡ line_there text All w → stop 15 n ≡ total_at n (take k text) w
+    total_later_not z = sym (of_total ∙ agreed_as All (Entry.Total w) false (there_none text All w z))
 
-    pub total_later : (r ≡ 0 → ⊥) → done (total w) ≡ total_at n (take k text) w
-    total_later z = sym (of_total ∙ agreed_as All (total w) true (there_some text All w r re z).0)
+    pub total_later : {r : ℕ} → Some r ≡ line_there text All w → done (Entry.Total w) ≡ total_at n (take k text) w
+    total_later z = sym (of_total ∙ agreed_as All (Entry.Total w) true (there_some text All w z).0)
 
 module _ (text : List ℕ) (k : ℕ) (ke : k ≡ length_before 10 text) (within : k < length text) (i : ℕ) (ik : i ≤ k) (w n : ℕ) where
   abbrev first : List ℕ
@@ -603,51 +600,54 @@ module _ (text : List ℕ) (k : ℕ) (ke : k ≡ length_before 10 text) (within 
   as_taken : take i text ≡ take i (take k text)
   as_taken = sym (take-take i k text ik)
 
-  module _ (s : Bool) (se : s ≡ same (take i text) (97 ∷ 108 ∷ 108 ∷ [])) where
-    all_is : (b : Bool) → s ≡ b → same first (name_text All) ≡ b
-    all_is b e = ap (λ (u : List ℕ). same u (name_text All)) (sym as_taken) ∙ ap (same (take i text)) (sym (name_all All refl)) ∙ sym se ∙ e
+  all_is : (b : Bool) → b ≡ same (take i text) (97 ∷ 108 ∷ 108 ∷ []) → same first (name_text All) ≡ b
+  all_is b e = ap (λ (u : List ℕ). same u (name_text All)) (sym as_taken) ∙ ap (same (take i text)) (sym (name_all All refl)) ∙ sym e
 
-    pub sequence_total : s ≡ true → total_at n (take k text) w ≡ in_sequence n (take k text) (take i (take k text)) w
+  pub sequence_total : true ≡ same (take i text) (97 ∷ 108 ∷ 108 ∷ []) → total_at n (take k text) w ≡ in_sequence n (take k text) (take i (take k text)) w
+  unfolding in_sequence
+  sequence_total is = sym (rw (all_is true is) refl)
+
+  module _ (isnt : false ≡ same (take i text) (97 ∷ 108 ∷ 108 ∷ [])) where
+    pub sequence_many : 65536 < n → stop 14 n ≡ in_sequence n (take k text) (take i (take k text)) w
     unfolding in_sequence
-    sequence_total is = sym (rw (all_is true is) refl)
+    sequence_many l = sym (rw (all_is false isnt, lt-leb n 65536 l, and-false (same first (name_text (Number n)))) refl)
 
-    module _ (isnt : s ≡ false) where
-      pub sequence_many : 65536 < n → stop 14 n ≡ in_sequence n (take k text) (take i (take k text)) w
+    module _ (few : n ≤ 65536) where
+      number_is : (b : Bool) → b ≡ same (take i text) (decimal n) → same first (name_text (Number n)) ≡ b
+      number_is b e =
+          ap (λ (u : List ℕ). same u (name_text (Number n))) (sym as_taken)
+          ∙ ap (same (take i text)) (sym (name_number (Number n) n refl)) ∙ sym e
+
+      pub sequence_number : false ≡ same (take i text) (decimal n) → stop 14 n ≡ in_sequence n (take k text) (take i (take k text)) w
       unfolding in_sequence
-      sequence_many l = sym (rw (all_is false isnt, lt-leb n 65536 l, and-false (same first (name_text (Number n)))) refl)
+      sequence_number f = sym (rw (all_is false isnt, number_is false f) refl)
 
-      module _ (few : n ≤ 65536) (t : Bool) (m : ℕ) (me : m ≡ n) (te : t ≡ same (take i text) (decimal m)) where
-        number_is : (b : Bool) → t ≡ b → same first (name_text (Number n)) ≡ b
-        number_is b e =
-            ap (λ (u : List ℕ). same u (name_text (Number n))) (sym as_taken)
-            ∙ ap (same (take i text)) (sym (name_number (Number n) n refl)) ∙ ap (λ (k : ℕ). same (take i text) (decimal k)) (sym me) ∙ sym te ∙ e
-
-        pub sequence_number : not t ≡ true → stop 14 n ≡ in_sequence n (take k text) (take i (take k text)) w
+      module _ (g : true ≡ same (take i text) (decimal n)) where
+        of_number : in_sequence n (take k text) (take i (take k text)) w ≡ agreeing n (take k text) (Number n) w (Entry.Breath w)
         unfolding in_sequence
-        sequence_number f = sym (rw (all_is false isnt, number_is false (not-true t f)) refl)
+        of_number = rw (all_is false isnt, number_is true g, le-leb n 65536 few) refl
 
-        module _ (g : not t ≡ false) (r : ℕ) (re : r ≡ line_there text (Number n) w) where
-          of_number : in_sequence n (take k text) (take i (take k text)) w ≡ agreeing n (take k text) (Number n) w (breath w)
-          unfolding in_sequence
-          of_number = rw (all_is false isnt, number_is true (not-false t g), le-leb n 65536 few) refl
+        pub sequence_breath_not : None ≡ line_there text (Number n) w → stop 15 n ≡ in_sequence n (take k text) (take i (take k text)) w
+        sequence_breath_not z = sym (of_number ∙ agreed_as text k ke within w n (Number n) (Entry.Breath w) false (there_none text (Number n) w z))
 
-          pub sequence_breath_not : r ≡ 0 → stop 15 n ≡ in_sequence n (take k text) (take i (take k text)) w
-          sequence_breath_not z = sym (of_number ∙ agreed_as text k ke within w n (Number n) (breath w) false (there_none text (Number n) w r re z))
-
-          pub sequence_breath : (r ≡ 0 → ⊥) → done (breath w) ≡ in_sequence n (take k text) (take i (take k text)) w
-          sequence_breath z = sym (of_number ∙ agreed_as text k ke within w n (Number n) (breath w) true (there_some text (Number n) w r re z).0)
+        pub sequence_breath : {r : ℕ} → Some r ≡ line_there text (Number n) w → done (Entry.Breath w) ≡ in_sequence n (take k text) (take i (take k text)) w
+        sequence_breath z = sym (of_number ∙ agreed_as text k ke within w n (Number n) (Entry.Breath w) true (there_some text (Number n) w z).0)
 
 -- ---- a line
 
-module _ (line : List ℕ) (n : ℕ) (x : Shape) (h : x ≡ shape_of line) where
-  pub judge_other : x ≡ Other → stop 13 n ≡ entry_of n (shape_of line) line
+module _ (line : List ℕ) (n : ℕ) where
+  pub judge_other : None ≡ shape_of line → stop 13 n ≡ entry_of n (shape_of line) line
   unfolding entry_of
-  judge_other e = sym (ap (λ (s : Shape). entry_of n s line) (sym h ∙ e))
+  judge_other e = ap (λ (s : Option Said). entry_of n s line) e
 
-  module _ (y : Said) (e : x ≡ Line y) where
+  module _ (y : Said) (e : Some y ≡ shape_of line) where
     pub judge_name : y.name ≤ length line
-    judge_name = name_within line y (sym h ∙ e)
+    judge_name = name_within line y (sym e)
 
     pub judge_line : (o : Outcome Entry) → o ≡ in_sequence n line (take y.name line) y.word → o ≡ entry_of n (shape_of line) line
     unfolding entry_of
-    judge_line o g = g ∙ sym (ap (λ (s : Shape). entry_of n s line) (sym h ∙ e))
+    judge_line o g = g ∙ ap (λ (s : Option Said). entry_of n s line) e
+
+-- ---- a stop, as the functions make it
+pub stopped_at : {A : Type 0} {s : Stop} {number place : ℕ} {o : Outcome A} → s ≡ record { number = number; place = place } → stop number place ≡ o → Err s ≡ o
+stopped_at e h = ap Err e ∙ h

@@ -3,6 +3,7 @@
 -- `load_only`: what is loaded are such words, and printing them yields the text. `exactly`: both, as the reader's contract has them. `alike`: no
 -- two texts are loaded alike. `first_differs`: a first line `all` that isn't that of no breaths. `behind_void`: what stands behind that one.
 use Rattle.std.proofs.Common.{◌≡◌, ℕ, suc, ◌+◌, ◌≤◌, true, List, [], ◌∷◌, ◌++◌, length, take, sym, refl, ap, ◌∙◌, subst, append_assoc, append-nil, arith}
+use Rattle.std.specs.Prelude.{Option, Some, None, Ok, Err}
 use Rattle.slash.specs.Answers.{Outcome, stop, done}
 use Rattle.slash.proofs.AnswerLaws.{done_inj, no_stop}
 use Rattle.breaths.specs.Ratios.{word_of, ratio_of}
@@ -15,18 +16,17 @@ use Rattle.text.specs.Columns.{fraction_and_percentage, columns}
 use Rattle.text.specs.Lines.{name_text, line_of, numbered}
 use Rattle.text.specs.declared.line.Name.{Name}
 use Rattle.text.specs.declared.line.Name.TheVariants.{Number, All}
-use Rattle.text.proofs.PartLaws.{Some, Free, parted_some, parted_whole, parted_cut, joined, joined_parted}
+use Rattle.text.proofs.PartLaws.{Some as Part, Free, parted_some, parted_whole, parted_cut, joined, joined_parted}
 use Rattle.text.proofs.LineLaws.{line_parts}
-use Rattle.shapes.specs.Fields.{every, is_whole, in_two}
+use Rattle.shapes.specs.Fields.{is_whole, in_two}
 use Rattle.shapes.specs.Words.{is_hex_digit, is_word, hex_value, hex_from, word_in}
 use Rattle.shapes.specs.Shapes.{is_named, are_columns, shape_of_fields, shape_of}
 use Rattle.shapes.specs.declared.shape.Said.{Said}
-use Rattle.shapes.specs.declared.shape.Shape.{Shape}
-use Rattle.shapes.specs.declared.shape.Shape.TheVariants.{Line, Other}
 use Rattle.shapes.proofs.ShapeLaws.{body_of, line_free}
 use Rattle.loading.specs.Listable.{listable, AllListable}
 use Rattle.loading.specs.Prints.{ratios_of, printed, IsListing}
-use Rattle.loading.specs.Lines.{Entry, breath, total, agreeing, total_at, in_sequence, entry_of}
+use Rattle.loading.specs.declared.line.Entry.{Entry}
+use Rattle.loading.specs.Lines.{agreeing, total_at, in_sequence, entry_of}
 use Rattle.loading.specs.Loads.{Listing, at_end, behind_all, ended_from, with_word, load_from, load, Exactly}
 use Rattle.loading.proofs.ListableLaws.{listable_zero}
 use Rattle.loading.proofs.LineLaws.{entry_breath, entry_total, Taken, entry_only, first_other}
@@ -37,7 +37,7 @@ use Rattle.loading.proofs.LineLaws.{entry_breath, entry_total, Taken, entry_only
 -- feed.)
 pub number_left_out : (let void : List ℕ = 9 ∷ 48 ∷ 48 ∷ 48 ∷ 48 ∷ 48 ∷ 48 ∷ 48 ∷ 48 ∷ 9 ∷ 45 ∷ 9 ∷ 45 ∷ 10 ∷ [] in
     load (49 ∷ (void ++ (51 ∷ (void ++ (97 ∷ 108 ∷ 108 ∷ void))))) ≡ stop 14 2)
-unfolding load load_from with_word parted shape_of shape_of_fields is_named is_whole every is_digit is_word is_hex_digit word_in hex_from hex_value in_two are_columns same name_text entry_of in_sequence total_at agreeing decimal decimal_from listable ratio_of line_of columns hexadecimal hex_digit fraction_and_percentage word_of at_end ended_from
+unfolding load load_from with_word parted shape_of shape_of_fields is_named is_whole is_digit is_word is_hex_digit word_in hex_from hex_value in_two are_columns same name_text entry_of in_sequence total_at agreeing decimal decimal_from listable ratio_of line_of columns hexadecimal hex_digit fraction_and_percentage word_of at_end ended_from
 number_left_out = refl
 
 -- ---- what is loaded
@@ -61,34 +61,34 @@ printed_more n w ws t = append_assoc (line_of (Number n) (ratio_of w)) (numbered
 -- ---- a line and what stands behind it
 
 abbrev pub follow : ℕ → Outcome Entry → List (List ℕ) → Outcome Listing
-follow n (stop number place) ps = stop number place
-follow n (done (breath w)) ps = with_word w (load_from (suc n) ps)
-follow n (done (total w)) ps = ended_from (suc n) w ps
+follow n (Err s) ps = Err s
+follow n (Ok (Entry.Breath w)) ps = with_word w (load_from (suc n) ps)
+follow n (Ok (Entry.Total w)) ps = ended_from (suc n) w ps
 
 load_next : (n : ℕ) (line next : List ℕ) (more : List (List ℕ)) (o : Outcome Entry) → entry_of n (shape_of line) line ≡ o
     → load_from n (line ∷ next ∷ more) ≡ follow n o (next ∷ more)
 unfolding load_from
 load_next n line next more o e =
     ap (λ (p : Outcome Entry). elim p as (λ z. Outcome Listing) [
-      | stop number place ↦ stop number place
-      | done e ↦ elim e as (λ z. Outcome Listing) [
-        | breath w ↦ with_word w (load_from (suc n) (next ∷ more))
-        | total w ↦ ended_from (suc n) w (next ∷ more)
+      | Err s ↦ Err s
+      | Ok e ↦ elim e as (λ z. Outcome Listing) [
+        | Entry.Breath w ↦ with_word w (load_from (suc n) (next ∷ more))
+        | Entry.Total w ↦ ended_from (suc n) w (next ∷ more)
       ]
     ]) e ∙ go o
   where
     go : (p : Outcome Entry) → (elim p as (λ z. Outcome Listing) [
-      | stop number place ↦ stop number place
-      | done e ↦ elim e as (λ z. Outcome Listing) [
-        | breath w ↦ with_word w (load_from (suc n) (next ∷ more))
-        | total w ↦ ended_from (suc n) w (next ∷ more)
+      | Err s ↦ Err s
+      | Ok e ↦ elim e as (λ z. Outcome Listing) [
+        | Entry.Breath w ↦ with_word w (load_from (suc n) (next ∷ more))
+        | Entry.Total w ↦ ended_from (suc n) w (next ∷ more)
       ]
     ]) ≡ follow n p (next ∷ more)
-    go (stop number place) = refl
-    go (done (breath w)) = refl
-    go (done (total w)) = refl
+    go (Err s) = refl
+    go (Ok (Entry.Breath w)) = refl
+    go (Ok (Entry.Total w)) = refl
 
-pub load_line : (n : ℕ) (line : List ℕ) (ps : List (List ℕ)) → Some ps → (o : Outcome Entry) → entry_of n (shape_of line) line ≡ o
+pub load_line : (n : ℕ) (line : List ℕ) (ps : List (List ℕ)) → Part ps → (o : Outcome Entry) → entry_of n (shape_of line) line ≡ o
     → load_from n (line ∷ ps) ≡ follow n o ps
 load_line n line ps s o e =
     ap (λ (qs : List (List ℕ)). load_from n (line ∷ qs)) s.is ∙ load_next n line s.first s.others o e
@@ -113,7 +113,7 @@ pub load_breath : (n w : ℕ) → listable w ≡ true → n ≤ 65536 → (rest 
     → load_from n (parted 10 (line_of (Number n) (ratio_of w) ++ rest)) ≡ with_word w (load_from (suc n) (parted 10 rest))
 load_breath n w l h rest =
     ap (load_from n) (parted_line (Number n) (ratio_of w) rest)
-    ∙ load_line n (body_of (Number n) (ratio_of w)) (parted 10 rest) (parted_some 10 rest) (done (breath w)) (entry_breath n w l h)
+    ∙ load_line n (body_of (Number n) (ratio_of w)) (parted 10 rest) (parted_some 10 rest) (done (Entry.Breath w)) (entry_breath n w l h)
 
 from_printed : (ws : List ℕ) (t n : ℕ) → AllListable ws → listable t ≡ true → (n + length ws ≡ 1 → t ≡ 0) → n + length ws ≤ 65537
     → load_from n (parted 10 (printed_from n ws t)) ≡ done (listing ws t)
@@ -124,7 +124,7 @@ from_printed [] t n a l h k =
     ∙ ap (λ (z : List (List ℕ)). line ∷ z) (parted_whole 10 [] tt)
     in
     ap (load_from n) parts
-    ∙ load_line n line ([] ∷ []) (record { first = []; others = []; is = refl }) (done (total t)) (entry_total n t l (λ e. h (omega arith)))
+    ∙ load_line n line ([] ∷ []) (record { first = []; others = []; is = refl }) (done (Entry.Total t)) (entry_total n t l (λ e. h (omega arith)))
     ∙ ended (suc n) t
 from_printed (w ∷ ws) t n a l h k =
     ap (λ (u : List ℕ). load_from n (parted 10 u)) (printed_more n w ws t)
@@ -144,7 +144,7 @@ unfolding load load_from parted at_end
 no_text = refl
 
 -- A first line `all` that has the shape and differs anywhere from that of no breaths is 14, whatever stands behind it.
-pub first_differs : (line rest : List ℕ) → Free 10 line → (x : Said) → shape_of line ≡ Line x → take x.name line ≡ name_text All
+pub first_differs : (line rest : List ℕ) → Free 10 line → (x : Said) → shape_of line ≡ Some x → take x.name line ≡ name_text All
     → (line ++ line_feed ≡ line_of All Void → ⊥) → load (line ++ line_feed ++ rest) ≡ stop 14 1
 unfolding load
 first_differs line rest f x s n d =
@@ -155,9 +155,9 @@ pub behind_void : (rest : List ℕ) → load (line_of All Void ++ rest) ≡ ende
 unfolding load
 behind_void rest =
     let line : List ℕ = body_of All (ratio_of 0) in
-    let first : entry_of 1 (shape_of line) line ≡ done (total 0) = entry_total 1 0 (sym (listable_zero 0 refl)) (λ e. refl) in
+    let first : entry_of 1 (shape_of line) line ≡ done (Entry.Total 0) = entry_total 1 0 (sym (listable_zero 0 refl)) (λ e. refl) in
     ap (λ (r : Ratio). load_from 1 (parted 10 (line_of All r ++ rest))) (of_zero 0 refl) ∙ ap (load_from 1) (parted_line All (ratio_of 0) rest)
-    ∙ load_line 1 line (parted 10 rest) (parted_some 10 rest) (done (total 0)) first
+    ∙ load_line 1 line (parted 10 rest) (parted_some 10 rest) (done (Entry.Total 0)) first
 
 -- ---- and nothing else is
 
@@ -166,10 +166,10 @@ unfolding at_end
 at_end_only n [] o l h = (refl, h)
 at_end_only n (x ∷ xs) o l h = absurd (no_stop h)
 
-behind_only : (n : ℕ) (s : Shape) (l : Listing) → behind_all n s ≡ done l → ⊥
+behind_only : (n : ℕ) (s : Option Said) (l : Listing) → behind_all n s ≡ done l → ⊥
 unfolding behind_all
-behind_only n Other l h = no_stop h
-behind_only n (Line x) l h = no_stop h
+behind_only n None l h = no_stop h
+behind_only n (Some x) l h = no_stop h
 
 ended_only : (n t : ℕ) (ps : List (List ℕ)) (l : Listing) → ended_from n t ps ≡ done l → (ps ≡ [] ∷ []) × (listing [] t ≡ l)
 unfolding ended_from
@@ -187,8 +187,8 @@ pub record Front (w : ℕ) (o : Outcome Listing) (l : Listing) : Type 0 where
 
 pub front : (w : ℕ) (o : Outcome Listing) (l : Listing) → with_word w o ≡ done l → Front w o l
 unfolding with_word
-front w (stop number place) l h = absurd (no_stop h)
-front w (done k) l h = record { behind = k; is = refl; whole = done_inj h }
+front w (Err s) l h = absurd (no_stop h)
+front w (Ok k) l h = record { behind = k; is = refl; whole = done_inj h }
 
 record Read (n : ℕ) (ps : List (List ℕ)) (l : Listing) : Type 0 where
   text : joined 10 ps ≡ printed_from n l.words l.total
@@ -197,7 +197,7 @@ record Read (n : ℕ) (ps : List (List ℕ)) (l : Listing) : Type 0 where
   few : n + length l.words ≤ 65537
   void_of_none : n + length l.words ≡ 1 → l.total ≡ 0
 
-read_total : (n : ℕ) (line : List ℕ) (w : ℕ) → n ≤ 65537 → Taken n line (total w) → Read n (line ∷ [] ∷ []) (listing [] w)
+read_total : (n : ℕ) (line : List ℕ) (w : ℕ) → n ≤ 65537 → Taken n line (Entry.Total w) → Read n (line ∷ [] ∷ []) (listing [] w)
 read_total n line w h t =
     record {
       text = append-nil (line ++ line_feed) ∙ t.0 ∙ sym (printed_end n w);
@@ -207,7 +207,7 @@ read_total n line w h t =
       void_of_none = λ e. t.2 (omega arith);
     }
 
-read_breath : (n : ℕ) (line next : List ℕ) (more : List (List ℕ)) (w : ℕ) (k : Listing) → Taken n line (breath w) → Read (suc n) (next ∷ more) k
+read_breath : (n : ℕ) (line next : List ℕ) (more : List (List ℕ)) (w : ℕ) (k : Listing) → Taken n line (Entry.Breath w) → Read (suc n) (next ∷ more) k
     → Read n (line ∷ next ∷ more) (listing (w ∷ k.words) k.total)
 read_breath n line next more w k t r =
     record {
@@ -229,13 +229,13 @@ read_only (line ∷ next ∷ more) n l q h =
     go : (o : Outcome Entry) → entry_of n (shape_of line) line ≡ o
         → ((k : Listing) → suc n ≤ 65537 → load_from (suc n) (next ∷ more) ≡ done k → Read (suc n) (next ∷ more) k)
         → Read n (line ∷ next ∷ more) l
-    go (stop number place) e ih = absurd (no_stop (sym (load_next n line next more _ e) ∙ h))
-    go (done (breath w)) e ih =
-        let t = entry_only n (shape_of line) line (breath w) e in
+    go (Err s) e ih = absurd (no_stop (sym (load_next n line next more _ e) ∙ h))
+    go (Ok (Entry.Breath w)) e ih =
+        let t = entry_only n (shape_of line) line (Entry.Breath w) e in
         let f = front w (load_from (suc n) (next ∷ more)) l (sym (load_next n line next more _ e) ∙ h) in
         subst (Read n (line ∷ next ∷ more)) f.whole (read_breath n line next more w f.behind t (ih f.behind (omega (arith, t.2)) f.is))
-    go (done (total w)) e ih =
-        let t = entry_only n (shape_of line) line (total w) e in
+    go (Ok (Entry.Total w)) e ih =
+        let t = entry_only n (shape_of line) line (Entry.Total w) e in
         let x = ended_only (suc n) w (next ∷ more) l (sym (load_next n line next more _ e) ∙ h) in
         subst (Read n (line ∷ next ∷ more)) x.1
         (subst (λ (qs : List (List ℕ)). Read n (line ∷ qs) (listing [] w)) (sym x.0) (read_total n line w q t))

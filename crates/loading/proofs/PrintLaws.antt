@@ -1,14 +1,13 @@
 -- The listing of words. Assumes nothing.
 -- `print_listing`: words are printed just where they are those of a listing. `print_loaded`: and what is printed is loaded as them again.
 -- `checking_end`, `putting_end`: what the loops over the words come to.
-use Rattle.std.proofs.Common.{◌≡◌, ℕ, zero, suc, ◌+◌, ◌-◌, ◌*◌, ◌<◌, ◌≤◌, Bool, true, false, not, ◌&&◌, eqb, leb, List, [], ◌∷◌, ◌++◌, length, get_or, drop, sym, refl, ap, ◌∙◌, subst, add-one, arith, length-append, drop-cons, eq-eqb, ne_eqb, le-leb, leb-true}
+use Rattle.std.proofs.Common.{◌≡◌, ℕ, zero, suc, ◌+◌, ◌-◌, ◌*◌, ◌<◌, ◌≤◌, Bool, true, false, not, ◌&&◌, eqb, leb, List, [], ◌∷◌, ◌++◌, ◌⊎◌, inl, inr, length, get_or, drop, sym, refl, ap, ◌∙◌, subst, add-one, arith, length-append, drop-cons, eq-eqb, ne_eqb, le-leb, leb-true}
 use mathlib.Core.Bool.{and-false, false≢true}
 use native.Mathlib.Decide.{ℕ_discrete}
-use borrow.Author.Tests.{lt-leb, not-true, not-false}
-use Rattle.std.specs.Prelude.{if◌then◌else◌}
-use Rattle.slash.specs.Answers.{Outcome, stop, done, ◌then◌, completion_outcome}
+use borrow.Author.Tests.{lt-leb, eqb-false}
+use Rattle.std.specs.Prelude.{if◌then◌else◌, Ok, Err}
+use Rattle.slash.specs.Answers.{Outcome, stop, done, ◌then◌}
 use Rattle.slash.specs.declared.answer.Stop.{Stop}
-use Rattle.slash.specs.declared.answer.Completion.{Completion}
 use Rattle.slash.proofs.AnswerLaws.{no_stop}
 use Rattle.breaths.specs.Ratios.{ratio_of}
 use Rattle.breaths.specs.declared.ratio.Ratio.{Ratio}
@@ -102,8 +101,8 @@ unfolding print_outcome
 print_loaded ws t text h = go (print_check 1 ws t) refl h
   where
     go : (o : Outcome (Unit {0})) → print_check 1 ws t ≡ o → (o then λ _. done (printed ws t)) ≡ done text → load text ≡ done (listing ws t)
-    go (stop number place) e g = absurd (no_stop g)
-    go (done tt) e g = ap load (sym (done_same g)) ∙ load_printed ws t (check_listing ws t e)
+    go (Err s) e g = absurd (no_stop g)
+    go (Ok tt) e g = ap load (sym (done_same g)) ∙ load_printed ws t (check_listing ws t e)
       where
         done_same : {a b : List ℕ} → done a ≡ done b → a ≡ b
         done_same q = cc
@@ -128,40 +127,48 @@ module _ {ws : List ℕ} {t i : ℕ} (c : Checking ws t i) where
     pub checking_many : 65536 ≤ i → stop 14 (i + 1) ≡ print_check 1 ws t
     checking_many h = let m : 65536 < i + 1 = omega arith in sym (here ∙ rw (lt-leb _ _ m) refl)
 
-    module _ (few : i < 65536) (b : Bool) (be : b ≡ listable (get_or ws i 0)) where
+    module _ (few : i < 65536) where
       within_few : leb (i + 1) 65536 ≡ true
       within_few = le-leb (i + 1) 65536 (omega arith)
 
-      pub checking_not : not b ≡ true → stop 15 (i + 1) ≡ print_check 1 ws t
-      checking_not n = sym (here ∙ rw (within_few, ← be, not-true b n) refl)
+      pub checking_not : false ≡ listable (get_or ws i 0) → stop 15 (i + 1) ≡ print_check 1 ws t
+      checking_not e = sym (here ∙ rw (within_few, ← e) refl)
 
-      pub checking_next : not b ≡ false → Checking ws t (i + 1)
-      checking_next n =
+      pub checking_next : true ≡ listable (get_or ws i 0) → Checking ws t (i + 1)
+      checking_next e =
           record {
             within = omega arith;
-            whole = here ∙ rw (within_few, ← be, not-false b n) refl ∙ ap (λ (m : ℕ). print_check m (drop (suc i) ws) t) (sym (add-one (i + 1)))
+            whole = here ∙ rw (within_few, ← e) refl ∙ ap (λ (m : ℕ). print_check m (drop (suc i) ws) t) (sym (add-one (i + 1)))
                 ∙ ap (λ (m : ℕ). print_check (i + 1 + 1) (drop m ws) t) (sym (add-one i));
           }
 
   module _ (l : length ws ≤ i) where
-    last : print_check 1 ws t ≡ (if eqb (i + 1) 1 && not (eqb t 0) then stop 14 (i + 1) else if listable t then done tt else stop 15 (i + 1))
+    last : print_check 1 ws t
+        ≡ (if eqb (length ws + 1) 1 && not (eqb t 0) then stop 14 (length ws + 1) else if listable t then done tt else stop 15 (length ws + 1))
     last =
-        c.whole ∙ ap (λ (us : List ℕ). print_check (i + 1) us t) (drop_past ws i (omega (arith, c.within))) ∙ check_end (i + 1) t
+        let e : i ≡ length ws = omega (arith, c.within) in
+        c.whole ∙ ap (λ (us : List ℕ). print_check (i + 1) us t) (drop_past ws i e) ∙ ap (λ (j : ℕ). print_check (j + 1) [] t) e
+        ∙ check_end (length ws + 1) t
 
-    pub checking_none : i ≡ 0 → (t ≡ 0 → ⊥) → stop 14 1 ≡ print_check 1 ws t
+    pub checking_none : length ws ≡ 0 → (t ≡ 0 → ⊥) → stop 14 1 ≡ print_check 1 ws t
     checking_none z v =
-        let e : i + 1 ≡ 1 = omega arith in
-        sym (last ∙ rw (eq-eqb (i + 1) 1 e, ne_eqb t 0 v) (ap (stop 14) e))
+        let e : length ws + 1 ≡ 1 = omega arith in
+        sym (last ∙ rw (eq-eqb (length ws + 1) 1 e, ne_eqb t 0 v) (ap (stop 14) e))
 
-    module _ (void : i ≡ 0 → t ≡ 0) (b : Bool) (be : b ≡ listable t) where
-      may_close : (eqb (i + 1) 1 && not (eqb t 0)) ≡ false
-      may_close = may_be_first (i + 1) t (λ e. void (omega (arith, e)))
+    module _ (void : length ws ≡ 0 → t ≡ 0) where
+      may_close : (eqb (length ws + 1) 1 && not (eqb t 0)) ≡ false
+      may_close = may_be_first (length ws + 1) t (λ e. void (omega (arith, e)))
 
-      pub checking_total : not b ≡ true → stop 15 (i + 1) ≡ print_check 1 ws t
-      checking_total n = sym (last ∙ rw (may_close, ← be, not-true b n) refl)
+      pub checking_total : false ≡ listable t → stop 15 (length ws + 1) ≡ print_check 1 ws t
+      checking_total e = sym (last ∙ rw (may_close, ← e) refl)
 
-      pub checking_end : not b ≡ false → done tt ≡ print_check 1 ws t
-      checking_end n = sym (last ∙ rw (may_close, ← be, not-false b n) refl)
+      pub checking_end : true ≡ listable t → done tt ≡ print_check 1 ws t
+      checking_end e = sym (last ∙ rw (may_close, ← e) refl)
+
+-- a total that may be the first line's
+pub void_by : (ws : List ℕ) {t : ℕ} {b : Bool} → b ≡ eqb (length ws) 0 → ((b ≡ true) × (t ≡ 0)) ⊎ (b ≡ false) → length ws ≡ 0 → t ≡ 0
+void_by ws e (inl h) z = h.1
+void_by ws e (inr h) z = absurd (eqb-false (length ws) 0 (sym e ∙ h) z)
 
 -- ---- the loop that stores their lines
 
@@ -261,19 +268,16 @@ module _ {o ws o' : List ℕ} {at i : ℕ} (p : Putting o ws o' at i) (big : 216
 
 -- ---- the whole call
 
-module _ (ws : List ℕ) (t : ℕ) (o : List ℕ) (c : Completion) (ce : completion_outcome c ≡ print_check 1 ws t) where
-  pub print_stopped : (s : Stop) → c ≡ Completion.Stopped s
-      → (stop s.number s.place ≡ length_of (print_outcome ws t)) × (o ≡ list_after (print_outcome ws t) o)
+module _ (ws : List ℕ) (t : ℕ) (o : List ℕ) where
+  pub print_stopped : {s : Stop} → Err s ≡ print_check 1 ws t → (Err s ≡ length_of (print_outcome ws t)) × (o ≡ list_after (print_outcome ws t) o)
   unfolding print_outcome length_of list_after
-  print_stopped s e =
-      let h : print_outcome ws t ≡ stop s.number s.place =
-      ap (λ (x : Outcome (Unit {0})). x then λ _. done (printed ws t)) (sym ce ∙ ap completion_outcome e)
-      in
+  print_stopped {s} e =
+      let h : print_outcome ws t ≡ Err s = sym (ap (λ (x : Outcome (Unit {0})). x then λ _. done (printed ws t)) e) in
       (ap length_of (sym h), ap (λ (x : Outcome (List ℕ)). list_after x o) (sym h))
 
-  module _ (e : c ≡ Completion.Done) where
+  module _ (e : done tt ≡ print_check 1 ws t) where
     pub print_is : IsListing ws t
-    print_is = check_listing ws t (sym ce ∙ ap completion_outcome e)
+    print_is = check_listing ws t (sym e)
 
     pub print_done : 2162719 ≤ length o → {o' : List ℕ} {at : ℕ} → Stored o 0 (numbered 1 (ratios_of ws)) o' at × (at + 33 ≤ 2162719)
         → (r : Ratio) → r ≡ ratio_of t → {o'' : List ℕ} {k : ℕ} → Stored o' at (line_in (length o' - at) All r) o'' k

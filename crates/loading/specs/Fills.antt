@@ -4,7 +4,6 @@ use Rattle.std.specs.Prelude.{if◌then◌else◌}
 use Rattle.slash.specs.Answers.{Outcome, stop, done, ◌then◌}
 use Rattle.text.specs.Stores.{list_after}
 use Rattle.loading.specs.Loads.{Listing, load}
-use Rattle.loading.specs.declared.load.Loaded.{Loaded}
 use Rattle.loading.specs.declared.load.Counted.{Counted}
 
 -- Last stop 7: a list shorter than the breaths.
@@ -18,10 +17,6 @@ load_into text p q = load text then where_fits p q
 -- The answer: the breath count and the total's word.
 abbrev pub counted : Listing → Counted
 counted l = record { breaths = length l.words; total = l.total }
-
-abbrev pub loaded_outcome : Loaded → Outcome Counted
-loaded_outcome (Loaded.Done c) = done c
-loaded_outcome (Loaded.Stopped s) = stop s.number s.place
 
 unfoldable pub count_of : Outcome Listing → Outcome Counted
 count_of o = o then λ l. done (counted l)

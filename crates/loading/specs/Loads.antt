@@ -1,12 +1,12 @@
 -- A listing read back: its words and its total, or the stop that its first bad line has.
-use Rattle.std.specs.Prelude.{◌≡◌, ℕ, suc, List, [], ◌∷◌}
+use Rattle.std.specs.Prelude.{◌≡◌, Option, Some, None, Ok, Err, ℕ, suc, List, [], ◌∷◌}
 use Rattle.slash.specs.Answers.{Outcome, stop, done}
 use Rattle.text.specs.Scan.{parted}
 use Rattle.shapes.specs.Shapes.{shape_of}
-use Rattle.shapes.specs.declared.shape.Shape.{Shape}
-use Rattle.shapes.specs.declared.shape.Shape.TheVariants.{Line, Other}
+use Rattle.shapes.specs.declared.shape.Said.{Said}
 use Rattle.loading.specs.Prints.{printed, IsListing}
-use Rattle.loading.specs.Lines.{breath, total, entry_of}
+use Rattle.loading.specs.declared.line.Entry.{Entry}
+use Rattle.loading.specs.Lines.{entry_of}
 
 pub record Listing : Type 0 where
   pub words : List ℕ
@@ -20,9 +20,9 @@ at_end n [] next = next
 at_end n (x ∷ xs) next = stop 13 n
 
 -- Line n, behind `all`: stop 13 where it isn't so shaped, else 14.
-unfoldable pub behind_all : (n : ℕ) → Shape → Outcome Listing
-behind_all n Other = stop 13 n
-behind_all n (Line x) = stop 14 n
+unfoldable pub behind_all : (n : ℕ) → Option Said → Outcome Listing
+behind_all n None = stop 13 n
+behind_all n (Some x) = stop 14 n
 
 -- From line n on, behind `all`.
 unfoldable pub ended_from : (n total : ℕ) → List (List ℕ) → Outcome Listing
@@ -32,8 +32,8 @@ ended_from n t (line ∷ next ∷ more) = behind_all n (shape_of line)
 
 -- One word in front.
 unfoldable pub with_word : ℕ → Outcome Listing → Outcome Listing
-with_word w (stop number place) = stop number place
-with_word w (done l) = done (record { words = w ∷ l.words; total = l.total })
+with_word w (Err s) = Err s
+with_word w (Ok l) = done (record { words = w ∷ l.words; total = l.total })
 
 -- From line n on. Stop 14, too: no `all`, at the line after the last.
 unfoldable pub load_from : (n : ℕ) → List (List ℕ) → Outcome Listing
@@ -41,10 +41,10 @@ load_from n [] = stop 14 n
 load_from n (rest ∷ []) = at_end n rest (stop 14 n)
 load_from n (line ∷ next ∷ more) =
     elim (entry_of n (shape_of line) line) [
-      | stop number place ↦ stop number place
-      | done e ↦ elim e [
-        | breath w ↦ with_word w (load_from (suc n) (next ∷ more))
-        | total w ↦ ended_from (suc n) w (next ∷ more)
+      | Err s ↦ Err s
+      | Ok e ↦ elim e [
+        | Entry.Breath w ↦ with_word w (load_from (suc n) (next ∷ more))
+        | Entry.Total w ↦ ended_from (suc n) w (next ∷ more)
       ]
     ]
 

@@ -1,17 +1,15 @@
 -- For the code and the proofs alone: what the functions that read a text and fill the lists promise.
-use Rattle.std.specs.Prelude.{◌≡◌, ℕ, suc, ◌+◌, ◌*◌, ◌/◌, ◌%◌, ◌≤◌, Bool, true, false, ◌&&◌, ◌⊎◌, List, [], ◌∷◌, length, take, drop, ◌==◌}
+use Rattle.std.specs.Prelude.{◌≡◌, ℕ, suc, ◌+◌, ◌*◌, ◌/◌, ◌%◌, ◌≤◌, Bool, true, false, ◌&&◌, Option, Some, None, Ok, Err, List, [], ◌∷◌, length, take, drop, ◌==◌}
 use Rattle.std.specs.Prelude.{if◌then◌else◌}
 use Rattle.convergents.specs.Pairs.{Lowest}
-use Rattle.slash.specs.Answers.{Outcome, stop, done}
+use Rattle.slash.specs.Answers.{Outcome, done, ◌then◌}
 use Rattle.breaths.specs.Ratios.{ratio_of}
 use Rattle.text.specs.Scan.{same, parted}
 use Rattle.text.specs.Lines.{line_of}
 use Rattle.text.specs.declared.line.Name.{Name}
 use Rattle.loading.specs.Listable.{listable}
-use Rattle.loading.specs.Lines.{Entry, breath, total}
 use Rattle.loading.specs.Loads.{Listing, with_word, load_from, ended_from}
 use Rattle.loading.specs.Fills.{up_from}
-use Rattle.loading.specs.declared.line.Judged.{Judged}
 use Rattle.loading.specs.declared.load.Turn.{Turn}
 
 -- ---- a word
@@ -32,19 +30,13 @@ word_from value (x ∷ xs) = word_from (value * 16 + digit_value x) xs
 
 -- ---- a line
 
--- The outcome that an answer at line n stands for.
-abbrev pub judged_outcome : ℕ → Judged → Outcome Entry
-judged_outcome n (Judged.Breath w) = done (breath w)
-judged_outcome n (Judged.Total w) = done (total w)
-judged_outcome n (Judged.Stopped number) = stop number n
-
 -- A text begins with the line that is printed for a name and a listable word.
 unfoldable pub begins : List ℕ → Name → (word : ℕ) → Bool
 begins text name w = listable w && same (take (length (line_of name (ratio_of w))) text) (line_of name (ratio_of w))
 
--- How many bytes that line has; 0 where the text begins otherwise.
-unfoldable pub line_there : List ℕ → Name → (word : ℕ) → ℕ
-line_there text name w = if begins text name w then length (line_of name (ratio_of w)) else 0
+-- How many bytes that line has; nothing where the text begins otherwise.
+unfoldable pub line_there : List ℕ → Name → (word : ℕ) → Option ℕ
+line_there text name w = if begins text name w then Some (length (line_of name (ratio_of w))) else None
 
 -- ---- a text, line by line
 
@@ -56,19 +48,19 @@ pub record Breath (n : ℕ) (text : List ℕ) (used : ℕ) : Type 0 where
   pub few : n ≤ 65536
   pub goes : load_from n (parted 10 text) ≡ with_word word (load_from (suc n) (parted 10 (drop used text)))
 
--- Line n is a breath's of so many bytes; or nothing is said of it, where that is 0.
-abbrev pub AtOnce : (n : ℕ) → List ℕ → (used : ℕ) → Type 0
-AtOnce n text used = (used ≡ 0) ⊎ Breath n text used
+-- Line n is a breath's of so many bytes; or nothing is said of it.
+abbrev pub AtOnce : (n : ℕ) → List ℕ → Option ℕ → Type 0
+AtOnce n text None = Unit {0}
+AtOnce n text (Some used) = Breath n text used
 
-abbrev pub TurnIs : (n : ℕ) → List ℕ → Turn → Type 0
-TurnIs n text (Turn.More used) = Breath n text used
-TurnIs n text (Turn.Closed w) = load_from n (parted 10 text) ≡ done (record { words = []; total = w })
-TurnIs n text (Turn.Stopped s) = load_from n (parted 10 text) ≡ stop s.number s.place
+abbrev pub TurnIs : (n : ℕ) → List ℕ → Outcome Turn → Type 0
+TurnIs n text (Err s) = load_from n (parted 10 text) ≡ Err s
+TurnIs n text (Ok (Turn.More used)) = Breath n text used
+TurnIs n text (Ok (Turn.Closed w)) = load_from n (parted 10 text) ≡ done (record { words = []; total = w })
 
-abbrev pub EndIs : (n total : ℕ) → List ℕ → Turn → Type 0
-EndIs n t text (Turn.More used) = ⊥
-EndIs n t text (Turn.Closed w) = ended_from n t (parted 10 text) ≡ done (record { words = []; total = w })
-EndIs n t text (Turn.Stopped s) = ended_from n t (parted 10 text) ≡ stop s.number s.place
+-- From line n on, behind `all`, stands nothing; or there is a stop.
+abbrev pub EndIs : (n : ℕ) → List ℕ → Outcome (Unit {0}) → Type 0
+EndIs n text end = (t : ℕ) → ended_from n t (parted 10 text) ≡ (end then λ _. done (record { words = []; total = t }))
 
 -- ---- filling the lists
 
@@ -77,8 +69,8 @@ unfoldable pub end_mark : ℕ → ℕ
 end_mark x = if x == 10 then 1 else 0
 
 unfoldable pub words_in : Outcome Listing → List ℕ
-words_in (stop number place) = []
-words_in (done l) = l.words
+words_in (Err s) = []
+words_in (Ok l) = l.words
 
 unfoldable pub numbers_in : Outcome Listing → List ℕ
 numbers_in o = up_from 1 (length (words_in o))

@@ -7,6 +7,7 @@ mod line;
 mod listable;
 mod load;
 mod print;
+mod stops;
 
-pub use load::{Counted, Loaded, load_text};
+pub use load::{Counted, load_text};
 pub use print::print_words;

@@ -5,19 +5,20 @@ ghost use Rattle.text.specs.Scan.{same, length_before};
 ghost use Rattle.text.specs.Lines.{is_name};
 ghost use Rattle.shapes.specs.Shapes.{shape_of};
 ghost use Rattle.loading.specs.Lines.{total_at, in_sequence, entry_of};
-ghost use Rattle.loading.specs.Steps.{judged_outcome, line_there, digit_value, word_from, AtOnce};
+ghost use Rattle.loading.specs.Steps.{line_there, digit_value, word_from, AtOnce};
 
 use crate::listable::is_listable;
+use crate::stops::{SEQUENCE, SHAPE, WORD, stop_at};
 use breaths::Ratio;
-use shapes::{Shape, shape_of};
+use shapes::{Said, shape_of};
+use slash::Stop;
 use text::{Name, is_same, put_line};
 
-// What a line gives: a breath's word, the total's, or the number of a stop.
+// What a line gives: a breath's word, or the total's.
 #[derive(Clone, Copy)]
-pub(crate) enum Judged {
+pub(crate) enum Entry {
     Breath(u64),
     Total(u64),
-    Stopped(u64),
 }
 
 // How many digits a breath's number has.
@@ -62,23 +63,23 @@ fn is_number(field: &[u8], n: u32) -> bool
 }
 
 // How many bytes the line has that is printed for a name and a word, where the word is listable and
-// the text begins with that line; else 0.
-fn line_there(text: &[u8], name: Name, w: u64) -> usize
+// the text begins with that line.
+fn line_there(text: &[u8], name: Name, w: u64) -> Option<usize>
     requires { is_name name ≡ true }
     ensures { result ≡ line_there text.now name w }
 {
     if !is_listable(w) {
-        return 0;
+        return None;
     }
     let mut line = [0u8; 33];
     let k = put_line(&mut line, 0, name, Ratio::of_word(w));
     if text.len() < k {
-        return 0;
+        return None;
     }
     if !is_same(&text[..k], &line[..k]) {
-        return 0;
+        return None;
     }
-    k
+    Some(k)
 }
 
 // The first bytes of a text, as many as the longest line has.
@@ -97,19 +98,19 @@ fn window(text: &[u8]) -> [u8; 33]
 
 // The same as `line_there` where the longest line has room: the line is stored over the text's first
 // bytes, which are as they were where it stands there. What takes longest is asked last.
-fn line_in_window(text: &[u8], name: Name, w: u64) -> usize
+fn line_in_window(text: &[u8], name: Name, w: u64) -> Option<usize>
     requires { (is_name name ≡ true) × (33 ≤ length text.now) }
     ensures { result ≡ line_there text.now name w }
 {
     let mut bytes = window(text);
     let k = put_line(&mut bytes, 0, name, Ratio::of_word(w));
     if !is_same(&text[..33], &bytes) {
-        return 0;
+        return None;
     }
     if !is_listable(w) {
-        return 0;
+        return None;
     }
-    k
+    Some(k)
 }
 
 // The value of a hexadecimal digit. Bit 6 tells a letter, whose lowest bits count from 1, for ten.
@@ -168,14 +169,14 @@ fn guess_at(text: &[u8], at: usize) -> u64
 }
 
 // How many bytes breath n's line has that a text begins with. It is looked for with the word that
-// stands where it has to: 0 where the text begins otherwise.
-pub(crate) fn breath_line(text: &[u8], n: u32) -> usize
+// stands where it has to.
+pub(crate) fn breath_line(text: &[u8], n: u32) -> Option<usize>
     requires { (1 ≤ n) × (n ≤ 65536) }
     ensures { AtOnce n text.now result }
 {
     let from = digits(n) + 1;
     if text.len() < from + 8 {
-        return 0;
+        return None;
     }
     let w = guess_at(text, from);
     if text.len() < text::LONGEST_LINE {
@@ -186,49 +187,49 @@ pub(crate) fn breath_line(text: &[u8], n: u32) -> usize
 
 // What line n gives, which is named `all` and says word w: the total, or 15. As the first line: the void
 // total of a listing of no breaths, or 14.
-fn total_at(text: &[u8], k: usize, w: u64, n: u32) -> Judged
+fn total_at(text: &[u8], k: usize, w: u64, n: u32) -> Result<Entry, Stop>
     requires { (k ≡ length_before 10 text.now) × (k < length text.now) }
-    ensures { judged_outcome n result ≡ total_at n (take k text.now) w }
+    ensures { result ≡ total_at n (take k text.now) w }
 {
     if n == 1 {
-        if line_there(text, Name::All, 0) == 0 {
-            return Judged::Stopped(14);
-        }
-        return Judged::Total(0);
+        return match line_there(text, Name::All, 0) {
+            Some(_) => Ok(Entry::Total(0)),
+            None => Err(stop_at(SEQUENCE, n as u64)),
+        };
     }
-    if line_there(text, Name::All, w) == 0 {
-        return Judged::Stopped(15);
+    match line_there(text, Name::All, w) {
+        Some(_) => Ok(Entry::Total(w)),
+        None => Err(stop_at(WORD, n as u64)),
     }
-    Judged::Total(w)
 }
 
-// What line n gives, which has the shape: its name's length and its word.
-fn in_sequence(text: &[u8], k: usize, name: usize, w: u64, n: u32) -> Judged
-    requires { (k ≡ length_before 10 text.now) × (k < length text.now) × (name ≤ k) × (1 ≤ n) }
-    ensures { judged_outcome n result ≡ in_sequence n (take k text.now) (take name (take k text.now)) w }
+// What line n gives, which has the shape and says x.
+fn in_sequence(text: &[u8], k: usize, x: Said, n: u32) -> Result<Entry, Stop>
+    requires { (k ≡ length_before 10 text.now) × (k < length text.now) × (x.name ≤ k) × (1 ≤ n) }
+    ensures { result ≡ in_sequence n (take k text.now) (take x.name (take k text.now)) x.word }
 {
-    if is_same(&text[..name], b"all") {
-        return total_at(text, k, w, n);
+    if is_same(&text[..x.name], b"all") {
+        return total_at(text, k, x.word, n);
     }
     if text::MOST_BREATHS < n {
-        return Judged::Stopped(14);
+        return Err(stop_at(SEQUENCE, n as u64));
     }
-    if !is_number(&text[..name], n) {
-        return Judged::Stopped(14);
+    if !is_number(&text[..x.name], n) {
+        return Err(stop_at(SEQUENCE, n as u64));
     }
-    if line_there(text, Name::Number(n), w) == 0 {
-        return Judged::Stopped(15);
+    match line_there(text, Name::Number(n), x.word) {
+        Some(_) => Ok(Entry::Breath(x.word)),
+        None => Err(stop_at(WORD, n as u64)),
     }
-    Judged::Breath(w)
 }
 
 // What line n gives, before `all`: the text's first k bytes, which a line feed follows.
-pub(crate) fn judge(text: &[u8], k: usize, n: u32) -> Judged
+pub(crate) fn judge(text: &[u8], k: usize, n: u32) -> Result<Entry, Stop>
     requires { (k ≡ length_before 10 text.now) × (k < length text.now) × (1 ≤ n) }
-    ensures { judged_outcome n result ≡ entry_of n (shape_of (take k text.now)) (take k text.now) }
+    ensures { result ≡ entry_of n (shape_of (take k text.now)) (take k text.now) }
 {
     match shape_of(&text[..k]) {
-        Shape::Other => Judged::Stopped(13),
-        Shape::Line(x) => in_sequence(text, k, x.name, x.word, n),
+        Some(x) => in_sequence(text, k, x, n),
+        None => Err(stop_at(SHAPE, n as u64)),
     }
 }

@@ -1,12 +1,13 @@
 // A listing read back.
 ghost use Rattle.std.specs.Prelude.{◌≡◌, ◌≤◌, length};
 ghost use Rattle.loading.specs.Loads.{load, Exactly};
-ghost use Rattle.loading.specs.Fills.{loaded_outcome, count_of, load_into, numbers_after, words_after};
+ghost use Rattle.loading.specs.Fills.{count_of, load_into, numbers_after, words_after};
 ghost use Rattle.loading.specs.Steps.{TurnIs, EndIs};
 
 use crate::fill::fill_lists;
-use crate::line::{Judged, breath_line, judge};
-use shapes::{Shape, shape_of};
+use crate::line::{Entry, breath_line, judge};
+use crate::stops::{SEQUENCE, SHAPE, stop_at};
+use shapes::shape_of;
 use slash::Stop;
 use text::length_before;
 
@@ -17,103 +18,82 @@ pub struct Counted {
     pub total: u64,
 }
 
-// What loading comes to: a listing of so many breaths, or a stop at a line.
-#[derive(Clone, Copy)]
-pub enum Loaded {
-    Done(Counted),
-    Stopped(Stop),
-}
-
-// What comes next in a text: a breath's line of so many bytes, the end with the total's word, or a
-// stop.
+// What comes next in a text: a breath's line of so many bytes, or the end with the total's word.
 #[derive(Clone, Copy)]
 pub(crate) enum Turn {
     More(usize),
     Closed(u64),
-    Stopped(Stop),
 }
 
-fn stop_at(number: u64, line: u32) -> Turn
-    ensures { result ≡ Turn.Stopped (record { number = number; place = line }) }
-{
-    Turn::Stopped(Stop {
-        number: number,
-        place: line as u64,
-    })
-}
-
-// What comes behind `all`, from line n on.
-fn behind_all(text: &[u8], n: u32, total: u64) -> Turn
-    ensures { EndIs n total text.now result }
+// What comes behind `all`, from line n on: nothing, or there is a stop.
+fn behind_all(text: &[u8], n: u32) -> Result<(), Stop>
+    ensures { EndIs n text.now result }
 {
     let k = length_before(text, b'\n');
     if k == text.len() {
         if k == 0 {
-            return Turn::Closed(total);
+            return Ok(());
         }
-        return stop_at(13, n);
+        return Err(stop_at(SHAPE, n as u64));
     }
     match shape_of(&text[..k]) {
-        Shape::Other => stop_at(13, n),
-        Shape::Line(_) => stop_at(14, n),
+        Some(_) => Err(stop_at(SEQUENCE, n as u64)),
+        None => Err(stop_at(SHAPE, n as u64)),
     }
 }
 
 // What comes at line n, judged whole.
-fn judged_turn(text: &[u8], n: u32) -> Turn
+fn judged_turn(text: &[u8], n: u32) -> Result<Turn, Stop>
     requires { (1 ≤ n) × (n ≤ 65537) }
     ensures { TurnIs n text.now result }
 {
     let k = length_before(text, b'\n');
     if k == text.len() {
         if k == 0 {
-            return stop_at(14, n);
+            return Err(stop_at(SEQUENCE, n as u64));
         }
-        return stop_at(13, n);
+        return Err(stop_at(SHAPE, n as u64));
     }
-    match judge(text, k, n) {
-        Judged::Stopped(number) => stop_at(number, n),
-        Judged::Breath(_) => Turn::More(k + 1),
-        Judged::Total(w) => behind_all(&text[k + 1..], n + 1, w),
+    match judge(text, k, n)? {
+        Entry::Breath(_) => Ok(Turn::More(k + 1)),
+        Entry::Total(w) => {
+            behind_all(&text[k + 1..], n + 1)?;
+            Ok(Turn::Closed(w))
+        }
     }
 }
 
 // What comes at line n. A breath's line as it is printed is known at once; any other is judged
 // whole, which no listing asks for more than once.
-fn next_turn(text: &[u8], n: u32) -> Turn
+fn next_turn(text: &[u8], n: u32) -> Result<Turn, Stop>
     requires { (1 ≤ n) × (n ≤ 65537) }
     ensures { TurnIs n text.now result }
 {
-    if text::MOST_BREATHS < n {
-        return judged_turn(text, n);
+    if n <= text::MOST_BREATHS {
+        if let Some(used) = breath_line(text, n) {
+            return Ok(Turn::More(used));
+        }
     }
-    let used = breath_line(text, n);
-    if used == 0 {
-        return judged_turn(text, n);
-    }
-    Turn::More(used)
+    judged_turn(text, n)
 }
 
 // The breaths of a text, and its total, or its stop.
-fn check(text: &[u8]) -> Loaded
-    ensures { loaded_outcome result ≡ count_of (load text.now) }
+fn check(text: &[u8]) -> Result<Counted, Stop>
+    ensures { result ≡ count_of (load text.now) }
 {
     let mut from = 0;
     let mut n: u32 = 1;
     loop {
-        match next_turn(&text[from..], n) {
-            Turn::Stopped(s) => {
-                return Loaded::Stopped(s);
-            }
-            Turn::Closed(w) => {
-                return Loaded::Done(Counted {
-                    breaths: (n - 1) as u64,
-                    total: w,
-                });
-            }
+        match next_turn(&text[from..], n)? {
             Turn::More(used) => {
                 n += 1;
                 from += used;
+            }
+            Turn::Closed(w) => {
+                return Ok(Counted {
+                    breaths: (n - 1) as u64,
+                    total: w,
+                });
             }
         }
     }
@@ -122,23 +102,19 @@ fn check(text: &[u8]) -> Loaded
 // Reads a printed listing back: stores its breaths' numbers and words at the start of the lent
 // lists, and answers their count and the total's word. The text is judged to its end before anything
 // is stored, so that a stop changes no place of either list.
-pub fn load_text(text: &[u8], numbers: &mut [u64], words: &mut [u64]) -> Loaded
-    ensures answered { loaded_outcome result ≡ count_of (load_into text.now (length numbers.old) (length words.old)) }
+pub fn load_text(text: &[u8], numbers: &mut [u64], words: &mut [u64]) -> Result<Counted, Stop>
+    ensures answered { result ≡ count_of (load_into text.now (length numbers.old) (length words.old)) }
     ensures numbered { numbers.new ≡ numbers_after (load_into text.now (length numbers.old) (length words.old)) numbers.old }
     ensures worded { words.new ≡ words_after (load_into text.now (length numbers.old) (length words.old)) words.old }
     ensures exactly { Exactly text.now }
 {
-    match check(text) {
-        Loaded::Stopped(s) => Loaded::Stopped(s),
-        Loaded::Done(c) => {
-            if (numbers.len() as u64) < c.breaths {
-                return Loaded::Stopped(Stop::plain(7));
-            }
-            if (words.len() as u64) < c.breaths {
-                return Loaded::Stopped(Stop::plain(7));
-            }
-            fill_lists(text, c.breaths as usize, numbers, words);
-            Loaded::Done(c)
-        }
+    let c = check(text)?;
+    if (numbers.len() as u64) < c.breaths {
+        return Err(Stop::plain(Stop::LIST));
     }
+    if (words.len() as u64) < c.breaths {
+        return Err(Stop::plain(Stop::LIST));
+    }
+    fill_lists(text, c.breaths as usize, numbers, words);
+    Ok(c)
 }

@@ -1,48 +1,35 @@
 // The listing of words.
 ghost use Rattle.std.specs.Prelude.{◌≡◌, ◌+◌, ◌≤◌, length};
-ghost use Rattle.slash.specs.Answers.{answer_outcome, completion_outcome};
 ghost use Rattle.text.specs.Lines.{numbered};
 ghost use Rattle.text.specs.Stores.{Stored, length_of, list_after};
 ghost use Rattle.loading.specs.Listable.{AllListable};
 ghost use Rattle.loading.specs.Prints.{ratios_of, print_check, print_outcome};
 
 use crate::listable::is_listable;
+use crate::stops::{SEQUENCE, WORD, stop_at};
 use breaths::Ratio;
-use slash::{Answer, Completion, Stop};
+use slash::Stop;
 use text::{Name, put_line};
 
-fn stop_at(number: u64, line: usize) -> Completion
-    ensures { result ≡ Completion.Stopped (record { number = number; place = line }) }
-{
-    Completion::Stopped(Stop {
-        number: number,
-        place: line as u64,
-    })
-}
-
 // Whether these words are those of a listing, or the stop that the first line has that isn't.
-fn check(words: &[u64], total: u64) -> Completion
-    ensures { completion_outcome result ≡ print_check 1 words.now total }
+fn check(words: &[u64], total: u64) -> Result<(), Stop>
+    ensures { result ≡ print_check 1 words.now total }
 {
-    let mut i = 0;
-    while i < words.len() {
+    for (i, w) in words.iter().enumerate() {
         if text::MOST_BREATHS as usize <= i {
-            return stop_at(14, i + 1);
+            return Err(stop_at(SEQUENCE, i as u64 + 1));
         }
-        if !is_listable(words[i]) {
-            return stop_at(15, i + 1);
+        if !is_listable(*w) {
+            return Err(stop_at(WORD, i as u64 + 1));
         }
-        i += 1;
     }
-    if i == 0 {
-        if total != 0 {
-            return stop_at(14, 1);
-        }
+    if words.is_empty() && total != 0 {
+        return Err(stop_at(SEQUENCE, 1));
     }
     if !is_listable(total) {
-        return stop_at(15, i + 1);
+        return Err(stop_at(WORD, words.len() as u64 + 1));
     }
-    Completion::Done
+    Ok(())
 }
 
 // Stores the words' lines at the start of a list that has room for them and for a line more.
@@ -52,15 +39,8 @@ fn put_words(words: &[u64], out: &mut [u8]) -> usize
     ensures room { result + 33 ≤ 2162719 }
 {
     let mut at = 0;
-    let mut i = 0;
-    while i < words.len() {
-        at = put_line(
-            out,
-            at,
-            Name::Number((i + 1) as u32),
-            Ratio::of_word(words[i]),
-        );
-        i += 1;
+    for (i, w) in words.iter().enumerate() {
+        at = put_line(out, at, Name::Number(i as u32 + 1), Ratio::of_word(*w));
     }
     at
 }
@@ -69,15 +49,11 @@ fn put_words(words: &[u64], out: &mut [u8]) -> usize
 // longest, and answers its length. It stops where no listing has such a line, and stores nothing
 // then: 14 for a total that isn't void where there are no words, and for a word behind 65,536 of them;
 // 15 for a word that isn't listable, at the line that it would have.
-pub fn print_words(words: &[u64], total: u64, listing: &mut [u8; 2162719]) -> Answer
-    ensures answered { answer_outcome result ≡ length_of (print_outcome words.now total) }
+pub fn print_words(words: &[u64], total: u64, listing: &mut [u8; 2162719]) -> Result<u64, Stop>
+    ensures answered { result ≡ length_of (print_outcome words.now total) }
     ensures stored { listing.new ≡ list_after (print_outcome words.now total) listing.old }
 {
-    match check(words, total) {
-        Completion::Stopped(stop) => Answer::Stopped(stop),
-        Completion::Done => {
-            let at = put_words(words, listing);
-            Answer::Done(put_line(listing, at, Name::All, Ratio::of_word(total)) as u64)
-        }
-    }
+    check(words, total)?;
+    let at = put_words(words, listing);
+    Ok(put_line(listing, at, Name::All, Ratio::of_word(total)) as u64)
 }

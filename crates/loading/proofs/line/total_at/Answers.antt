@@ -1,23 +1,23 @@
-use Rattle.loading.proofs.LineLaws.{total_first_not, total_first, total_later_not, total_later}
 use Rattle.std.proofs.Common.{sym, refl}
 use Rattle.text.proofs.LineLaws.{is_all}
 use Rattle.text.specs.declared.line.Name.TheVariants.{All}
+use Rattle.loading.proofs.LineLaws.{total_first_not, total_first, total_later_not, total_later, stopped_at}
 use Rattle.loading.proofs.line.total_at.Goals as goal
 
 pub line_there-requires : goal.line_there-requires
 line_there-requires c = sym (is_all All refl)
 
-pub returns-then-line_there-eq0 : goal.returns-then-line_there-eq0
-returns-then-line_there-eq0 c = total_first_not _ _ c.requires.0 c.requires.1 _ _ c.if-n-eq1.true _ c.line_there.ensures c.if-line_there-eq0.true
+pub returns-in-Some : goal.returns-in-Some
+returns-in-Some c = total_first _ _ c.requires.0 c.requires.1 _ _ c.if-n-eq1.true c.in-Some.ensures
 
-pub returns-then-n-eq1 : goal.returns-then-n-eq1
-returns-then-n-eq1 c = total_first _ _ c.requires.0 c.requires.1 _ _ c.if-n-eq1.true _ c.line_there.ensures c.if-line_there-eq0.false
+pub returns-in-None : goal.returns-in-None
+returns-in-None c = stopped_at c.stop_at.ensures (total_first_not _ _ c.requires.0 c.requires.1 _ _ c.if-n-eq1.true c.in-None.ensures)
 
 pub line_there-requires-2 : goal.line_there-requires-2
 line_there-requires-2 c = sym (is_all All refl)
 
-pub returns-then-line_there-eq0-2 : goal.returns-then-line_there-eq0-2
-returns-then-line_there-eq0-2 c = total_later_not _ _ c.requires.0 c.requires.1 _ _ c.if-n-eq1.false _ c.line_there-2.ensures c.if-line_there-eq0-2.true
+pub returns-in-Some-line_there : goal.returns-in-Some-line_there
+returns-in-Some-line_there c = total_later _ _ c.requires.0 c.requires.1 _ _ c.if-n-eq1.false c.in-Some-line_there.ensures
 
-pub returns : goal.returns
-returns c = total_later _ _ c.requires.0 c.requires.1 _ _ c.if-n-eq1.false _ c.line_there-2.ensures c.if-line_there-eq0-2.false
+pub returns-in-None-line_there : goal.returns-in-None-line_there
+returns-in-None-line_there c = stopped_at c.stop_at-in-None-line_there.ensures (total_later_not _ _ c.requires.0 c.requires.1 _ _ c.if-n-eq1.false c.in-None-line_there.ensures)

@@ -1,18 +1,14 @@
-use Rattle.loading.proofs.TextLaws.{end_stop, end_none, end_unended, end_other, end_line}
-use Rattle.std.proofs.Common.{sym, length-take-le}
+use Rattle.loading.proofs.TextLaws.{end_none, end_unended, end_other, end_line, end_stop}
 use Rattle.loading.proofs.load.behind_all.Goals as goal
 
 pub returns-then-k-eq0 : goal.returns-then-k-eq0
-returns-then-k-eq0 c = end_none _ _ c.length_before-k.ensures.defined c.if-k-text.true _ _ c.if-k-eq0.true
+returns-then-k-eq0 c = end_none _ _ c.length_before-k.ensures.defined c.if-k-text.true _ c.if-k-eq0.true
 
 pub returns-then-k-text : goal.returns-then-k-text
-returns-then-k-text c = end_stop _ _ _ _ _ c.stop_at.ensures _ (end_unended _ _ c.length_before-k.ensures.defined c.if-k-text.true _ _ c.if-k-eq0.false)
+returns-then-k-text c = end_stop _ _ c.stop_at.ensures (end_unended _ _ c.length_before-k.ensures.defined c.if-k-text.true _ c.if-k-eq0.false)
 
-pub slice_bounds-shape_of-end : goal.slice_bounds-shape_of-end
-slice_bounds-shape_of-end c = sym (length-take-le _ _ c.length_before-k.ensures.within)
+pub returns-in-Some : goal.returns-in-Some
+returns-in-Some c = end_stop _ _ c.stop_at-in-Some.ensures (end_line _ _ c.length_before-k.ensures.defined c.if-k-text.false _ c.in-Some.ensures)
 
-pub returns-in-Other : goal.returns-in-Other
-returns-in-Other c = end_stop _ _ _ _ _ c.stop_at-in-Other.ensures _ (end_other _ _ c.length_before-k.ensures.defined c.if-k-text.false _ _ _ c.shape_of.ensures c.in-Other.is)
-
-pub returns-in-Line : goal.returns-in-Line
-returns-in-Line c = end_stop _ _ _ _ _ c.stop_at-in-Line.ensures _ (end_line _ _ c.length_before-k.ensures.defined c.if-k-text.false _ _ _ c.shape_of.ensures c.in-Line.field-0 c.in-Line.is)
+pub returns-in-None : goal.returns-in-None
+returns-in-None c = end_stop _ _ c.stop_at-in-None.ensures (end_other _ _ c.length_before-k.ensures.defined c.if-k-text.false _ c.in-None.ensures)

@@ -1,9 +1,5 @@
 use Rattle.loading.proofs.PrintLaws.{Putting}
-use Rattle.std.proofs.Common.{◌-◌, length}
 use Rattle.loading.proofs.print.put_words.Given as goal
 
 abbrev pub invariant-loop-i : goal.invariant-loop-i
 invariant-loop-i l = Putting l.initial.out l.words l.out l.at l.i
-
-abbrev pub decreases-loop-i : goal.decreases-loop-i
-decreases-loop-i l = length l.words - l.i
