@@ -13,7 +13,6 @@ use native.Mathlib.Numerals.{add-one}
 use native.Mathlib.Decide.{dec_lt, ℕ_discrete}
 use lib.Dec.{ltb}
 use lib.ListN.{length, take, drop, length-append, length-drop, take-append-drop}
-use lib.Seq.{drop-drop}
 use borrow.Author.Tests.{lt-ltb, le-ltb}
 use Rattle.std.specs.Prelude.{Option, Some, None, Result, Ok, Err}
 use Rattle.std.specs.Prelude.{if◌then◌else◌}
@@ -342,14 +341,13 @@ never_12 bs place e = go (check_stops bs 12 place e)
 
 -- ---- the loop: what is read so far, and what the rest comes to
 
-pub record Reading (bs : List ℕ) (breath from : ℕ) : Type 0 where
+pub record Reading (bs : List ℕ) (breath : ℕ) (rest : List ℕ) : Type 0 where
   pub few : breath ≤ 65537
-  pub within : from ≤ length bs
-  pub total : check_on 1 bs ≡ check_from (65538 - breath) breath (drop from bs)
+  pub total : check_on 1 bs ≡ check_from (65538 - breath) breath rest
 
-pub reading_start : (bs : List ℕ) → Reading bs 1 0
+pub reading_start : (bs : List ℕ) → Reading bs 1 bs
 unfolding check_on
-reading_start bs = record { few = omega arith; within = omega arith; total = refl }
+reading_start bs = record { few = omega arith; total = refl }
 
 -- how many bytes the next breath takes
 pub length_quick : (breath : ℕ) → breath ≤ 65536 → (bs : List ℕ) (used : ℕ) → LineLength bs used → done (Some used) ≡ next_length (next_of breath bs)
@@ -381,43 +379,44 @@ measures (Ok (Some entry)) = (entry, refl, refl)
 measures (Ok None) = refl
 measures (Err s) = refl
 
-module _ {bs : List ℕ} {breath from : ℕ} (i : Reading bs breath from) {x : Outcome (Option ℕ)} (xe : x ≡ next_length (next_of breath (take (length bs - from) (drop from bs)))) where
-  next_here : (known : Outcome (Option ℕ)) → x ≡ known → Measures (next_of breath (drop from bs)) known
-  next_here known d =
-      subst (Measures (next_of breath (drop from bs))) (sym (sym d ∙ xe ∙ ap (λ (u : List ℕ). next_length (next_of breath u)) (tail_is from bs))) (measures (next_of breath (drop from bs)))
+module _ {bs : List ℕ} {breath : ℕ} {rest : List ℕ} (i : Reading bs breath rest) {x : Outcome (Option ℕ)} (xe : x ≡ next_length (next_of breath rest)) where
+  next_here : (known : Outcome (Option ℕ)) → x ≡ known → Measures (next_of breath rest) known
+  next_here known d = subst (Measures (next_of breath rest)) (sym (sym d ∙ xe)) (measures (next_of breath rest))
 
   -- a step is left
-  here : check_on 1 bs ≡ check_from (suc (65537 - breath)) breath (drop from bs)
+  here : check_on 1 bs ≡ check_from (suc (65537 - breath)) breath rest
   here =
       let step : 65538 - breath ≡ suc (65537 - breath) = omega (arith, i.few) in
-      i.total ∙ ap (λ (n : ℕ). check_from n breath (drop from bs)) step
+      i.total ∙ ap (λ (n : ℕ). check_from n breath rest) step
 
   pub reading_end : x ≡ done None → done tt ≡ check_on 1 bs
-  reading_end d = sym (here ∙ check_end (65537 - breath) breath (drop from bs) (next_here (done None) d))
+  reading_end d = sym (here ∙ check_end (65537 - breath) breath rest (next_here (done None) d))
 
   pub reading_stopped : {s : Stop} → x ≡ Err s → Err s ≡ check_on 1 bs
-  reading_stopped {s} d = sym (here ∙ check_stop (65537 - breath) breath (drop from bs) (next_here (Err s) d))
+  reading_stopped {s} d = sym (here ∙ check_stop (65537 - breath) breath rest (next_here (Err s) d))
 
   module _ {used : ℕ} (d : x ≡ done (Some used)) where
-    pub reading_used : (breath ≤ 65536) × (1 ≤ used) × (from + used ≤ length bs)
+    pub reading_used : (breath ≤ 65536) × (1 ≤ used) × (used ≤ length rest)
     reading_used =
         let n = next_here (done (Some used)) d in
-        let w = follows_breath breath (drop from bs) n.0 n.1 in
-        (w.0, omega (arith, w.1.ended, n.2), omega (arith, w.1.within, n.2, length-drop from bs, i.within))
+        let w = follows_breath breath rest n.0 n.1 in
+        (w.0, omega (arith, w.1.ended, n.2), omega (arith, w.1.within, n.2))
 
-    pub reading_again : Reading bs (breath + 1) (from + used)
+    pub reading_shorter : length (take (length rest - used) (drop used rest)) < length rest
+    reading_shorter = let u = reading_used in omega (arith, u.1, ap length (tail_is used rest), length-drop used rest)
+
+    pub reading_again : Reading bs (breath + 1) (take (length rest - used) (drop used rest))
     reading_again =
         let n = next_here (done (Some used)) d in
         let u = reading_used in
         let step : 65537 - breath ≡ 65538 - (breath + 1) = omega (arith, u.0) in
         record {
           few = omega (arith, u.0);
-          within = u.2;
           total =
               here
-              ∙ check_more (65537 - breath) breath (drop from bs) n.0 n.1
-              ∙ ap (λ (m : ℕ). check_from (65537 - breath) (suc breath) (drop m (drop from bs))) n.2
-              ∙ ap (λ (b : List ℕ). check_from (65537 - breath) (suc breath) b) (drop-drop used from bs)
-              ∙ ap (λ (m : ℕ). check_from m (suc breath) (drop (from + used) bs)) step
-              ∙ ap (λ (m : ℕ). check_from (65538 - (breath + 1)) m (drop (from + used) bs)) (sym (add-one breath));
+              ∙ check_more (65537 - breath) breath rest n.0 n.1
+              ∙ ap (λ (m : ℕ). check_from (65537 - breath) (suc breath) (drop m rest)) n.2
+              ∙ ap (check_from (65537 - breath) (suc breath)) (sym (tail_is used rest))
+              ∙ ap (λ (m : ℕ). check_from m (suc breath) (take (length rest - used) (drop used rest))) step
+              ∙ ap (λ (m : ℕ). check_from (65538 - (breath + 1)) m (take (length rest - used) (drop used rest))) (sym (add-one breath));
         }

@@ -69,10 +69,10 @@ fn check_breaths(bytes: &[u8]) -> Result<(), Stop>
     ensures { result ≡ check_on 1 bytes.now }
 {
     let mut breath = 1;
-    let mut from = 0;
-    while let Some(used) = next_length(breath, &bytes[from..])? {
+    let mut rest = bytes;
+    while let Some(used) = next_length(breath, rest)? {
         breath += 1;
-        from += used;
+        rest = &rest[used..];
     }
     Ok(())
 }
