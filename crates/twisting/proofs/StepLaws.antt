@@ -26,7 +26,7 @@ use Rattle.slash.proofs.FormatLaws.{slash_bits_le, slash_bits_enough, known_k}
 use Rattle.slash.proofs.ReadingLaws.{above_is, check_above, check_undefined, check_floating_lem, undefined_below}
 use Rattle.twisting.specs.Twisting.{turned, twisted_field, untwisted_field, with_field, rearranged, check_floating, rearrange}
 use Rattle.twisting.specs.Steps.{way_of, parting_at, Good, AllGood, raised_next, Joined}
-use Rattle.twisting.specs.declared.twisting.Way.{Way}
+use Rattle.twisting.specs.declared.layout.Way.{Way}
 use Rattle.twisting.proofs.TurningLaws.{turned_lt, turned_zero, turned_mod, turned_split}
 use Rattle.twisting.proofs.TwistingLaws.{width, twisted_lt, untwisted_lt, Fits, rearranged_field, rearranged_special, with_is, field_lt, whole, floating_width, rearrange_word, rearrange_done}
 

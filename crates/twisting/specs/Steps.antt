@@ -6,7 +6,7 @@ use Rattle.slash.specs.Reading.{slash_undefined}
 use Rattle.slash.specs.declared.number.Value.{Value}
 use Rattle.slash.specs.declared.number.Value.TheVariants.{Fraction, Zero, Infinity, NotANumber}
 use Rattle.twisting.specs.Twisting.{turned, twisted_field, untwisted_field}
-use Rattle.twisting.specs.declared.twisting.Way.{Way}
+use Rattle.twisting.specs.declared.layout.Way.{Way}
 
 -- ---- bits turned by halves
 

@@ -4,6 +4,7 @@
 #![tactic(auto)]
 
 mod each;
+mod layout;
 mod turning;
 mod twisting;
 

@@ -2,7 +2,11 @@ use Rattle.slash.proofs.AnswerLaws.{plain_stop, passed_on}
 use Rattle.slash.proofs.FormatLaws.{known_k}
 use Rattle.twisting.proofs.TwistingLaws.{floating_is}
 use Rattle.twisting.proofs.EachLaws.{each_format, each_length, stopped_before, rearranged_stopped, rearranged_done}
-use mathlib.Core.Path.{sym, ◌∙◌}
+use Rattle.twisting.specs.Twisting.{rearranged}
+use Rattle.twisting.specs.Steps.{way_of}
+use mathlib.Core.Path.{sym, ap, ◌∙◌}
+use mathlib.Core.List.{map}
+use Prim.Native.Nat.{ℕ}
 use Rattle.twisting.proofs.each.rearrange_each.Goals as goal
 
 pub returns-in_err-check_floating : goal.returns-in_err-check_floating
@@ -15,14 +19,11 @@ returns-then-operand-out c =
     let both = (stopped_before _ _ (plain_stop _ 3 c.plain.ensures (each_length _ _ _ _ (sym c.in_ok-check_floating.was ∙ c.check_floating.ensures) c.if-operand-out.true))) in
     record { answered = both.0; stored = both.1 }
 
-pub position_ones-positions-requires : goal.position_ones-positions-requires
-position_ones-positions-requires c = let k = known_k _ (floating_is _ (sym c.in_ok-check_floating.was ∙ c.check_floating.ensures)).0 in (k.0, k.1)
+pub new-l-requires : goal.new-l-requires
+new-l-requires c = let k = known_k _ (floating_is _ (sym c.in_ok-check_floating.was ∙ c.check_floating.ensures)).0 in (k.0, k.1)
 
 pub check_all-requires : goal.check_all-requires
-check_all-requires c = let is = floating_is _ (sym c.in_ok-check_floating.was ∙ c.check_floating.ensures) in (is.0, is.1, c.position_ones-positions.ensures)
-
-pub store_rearranged-requires : goal.store_rearranged-requires
-store_rearranged-requires c = let k = known_k _ (floating_is _ (sym c.in_ok-check_floating.was ∙ c.check_floating.ensures)).0 in (k.0, k.1, c.position_ones-positions.ensures, c.if-operand-out.false)
+check_all-requires c = let is = floating_is _ (sym c.in_ok-check_floating.was ∙ c.check_floating.ensures) in (is.0, is.1, c.new-l.ensures)
 
 pub returns-in_err-check_all : goal.returns-in_err-check_all
 returns-in_err-check_all c =
@@ -31,5 +32,5 @@ returns-in_err-check_all c =
 
 pub returns : goal.returns
 returns c =
-    let both = (rearranged_done _ _ _ _ (sym c.in_ok-check_floating.was ∙ c.check_floating.ensures) c.if-operand-out.false _ c.check_all.ensures c.in_ok-check_all.was _ c.store_rearranged.ensures) in
+    let both = (rearranged_done _ _ _ _ (sym c.in_ok-check_floating.was ∙ c.check_floating.ensures) c.if-operand-out.false _ c.check_all.ensures c.in_ok-check_all.was _ (c.store_rearranged.ensures ∙ ap (λ (k : ℕ). map (rearranged (way_of c.args.way) k) c.args.operand.now) c.new-l.ensures)) in
     record { answered = both.0; stored = both.1 }
