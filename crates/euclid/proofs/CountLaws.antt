@@ -1,17 +1,17 @@
 -- Counting partial quotients. Assumes nothing.
 -- `next_quotient`, `no_quotient`: one turn of Euclid's algorithm, and its end. `two_quotients`: where the rest is nearer to the divisor than
--- to 0, the quotient that follows is 1, so that one division counts two; `nearer`: the same of a first quotient 1. `count_end`, `take_more`,
--- `take_end`: what the loops come to. `few`: n/d has at most 2j quotients where d is below 2^j.
+-- to 0, the quotient that follows is 1, so that one division counts two; `nearer`: the same of a first quotient 1. `count_end`, `more_left`,
+-- `none_left`: what the loops come to. `few`: n/d has at most 2j quotients where d is below 2^j.
 use mathlib.Core.Path.{◌≡◌, refl, sym, ap, ◌∙◌, subst}
-use mathlib.Core.Bool.{true, false}
+use mathlib.Core.Bool.{false, not}
 use mathlib.Core.List.{List, [], ◌∷◌}
 use Prim.Native.Nat.{ℕ, zero, suc, ◌+◌, ◌-◌, ◌*◌, ◌/◌, ◌%◌, ◌^◌, ◌≤◌, ◌<◌}
 use native.Mathlib.Omega.{arith}
 use native.Mathlib.Nat.{mod-lt, mod-eq_of_lt, add-mod_left, add-mod_right, zero-lt-suc, le-div_iff_mul-le, div-add-mod', mul-le-mul_right, pow-suc}
 use native.Mathlib.Decide.{ℕ_discrete}
 use lib.ListN.{length}
-use lib.Dec.{ltb}
-use borrow.Author.Tests.{le-ltb, lt-ltb}
+use lib.Dec.{ltb, eqb}
+use borrow.Author.Tests.{le-ltb, lt-ltb, eq-eqb, ne_eqb}
 use Rattle.convergents.specs.Convergents.{euclid, quotients}
 use Rattle.convergents.proofs.BestLaws.{euclid_enough, euclid_done}
 
@@ -61,7 +61,11 @@ pub record Counting (N D u v i : ℕ) : Type 0 where
   pub few : i + v ≤ D
   pub total : i + length (quotients u v) ≡ length (quotients N D)
 
--- how the loop begins: with the larger part first
+-- how the loop begins
+pub count_start : (N D : ℕ) → Counting N D N D 0
+count_start N D = record { few = omega arith; total = omega arith }
+
+-- or with the larger part first
 module _ (N D : ℕ) {u v i : ℕ} where
   -- below 1 the first quotient is 0 and leaves N
   pub count_below : N < D → u ≡ D → v ≡ N → i ≡ 1 → Counting N D u v i × (v ≤ u)
@@ -73,8 +77,7 @@ module _ (N D : ℕ) {u v i : ℕ} where
 
   pub count_above : D ≤ N → u ≡ N → v ≡ D → i ≡ 0 → Counting N D u v i × (v ≤ u)
   count_above l e f g =
-      let c : Counting N D N D 0 = record { few = omega arith; total = omega arith } in
-      (rw (e, f, g) c, omega arith)
+      (rw (e, f, g) (count_start N D), omega arith)
 
 module _ {N D u v i : ℕ} (c : Counting N D u v i) where
   -- a first quotient 1
@@ -103,28 +106,20 @@ module _ {N D u v i : ℕ} (c : Counting N D u v i) where
   pub count_end : v ≡ 0 → i ≡ length (quotients N D)
   count_end z = omega (arith, c.total, ap length (no_quotient u v z))
 
--- ---- whether there are more than so many places, by those that are still free
+  -- whether there are more than those counted, by the divisor that is left
+  pub more_left : not (eqb v 0) ≡ ltb i (length (quotients N D))
+  more_left = go (ℕ_discrete v 0)
+    where
+      go : Dec (v ≡ 0) → not (eqb v 0) ≡ ltb i (length (quotients N D))
+      go (yes z) = rw (eq-eqb v 0 z, le-ltb i (length (quotients N D)) (omega (arith, count_end z))) refl
+      go (no n) =
+          let some : 1 ≤ v = omega arith in
+          let l : i < length (quotients N D) = omega (arith, c.total, ap length (next_quotient u v some)) in
+          rw (ne_eqb v 0 n, lt-ltb _ _ l) refl
 
-pub record Taking (N D places u v free : ℕ) : Type 0 where
-  pub total : length (quotients N D) + free ≡ length (quotients u v) + places
-
-pub take_start : (N D places : ℕ) → Taking N D places N D places
-take_start N D places = record { total = refl }
-
-module _ {N D places u v free : ℕ} (t : Taking N D places u v free) where
-  module _ (some : 1 ≤ v) where
-    pub take_next : 1 ≤ free → Taking N D places v (u % v) (free - 1)
-    take_next l = record { total = omega (arith, t.total, ap length (next_quotient u v some)) }
-
-    pub take_more : free ≡ 0 → true ≡ ltb places (length (quotients N D))
-    take_more z =
-        let l : places < length (quotients N D) = omega (arith, t.total, ap length (next_quotient u v some)) in
-        sym (lt-ltb _ _ l)
-
-  pub take_end : v ≡ 0 → false ≡ ltb places (length (quotients N D))
-  take_end z =
-      let l : length (quotients N D) ≤ places = omega (arith, t.total, ap length (no_quotient u v z)) in
-      sym (le-ltb _ _ l)
+  -- and none after the last one
+  pub none_left : v ≡ 0 → {places : ℕ} → i < places → false ≡ ltb places (length (quotients N D))
+  none_left z l = sym (le-ltb _ _ (omega (arith, count_end z, l)))
 
 -- ---- how many there can be
 

@@ -8,12 +8,9 @@ use slash::{Format, Stop, Value};
 fn common_divisor(n: u64, d: u64) -> u64
     ensures { result ≡ gcd_of n d }
 {
-    let mut u = n;
-    let mut v = d;
+    let (mut u, mut v) = (n, d);
     while v != 0 {
-        let rest = u % v;
-        u = v;
-        v = rest;
+        (u, v) = (v, u % v);
     }
     u
 }
@@ -23,9 +20,7 @@ fn value_divisor(v: Value) -> u64
 {
     match v {
         Value::Fraction(p) => common_divisor(p.numerator, p.denominator),
-        Value::Zero(_) => 0,
-        Value::Infinity(_) => 0,
-        Value::NotANumber => 0,
+        Value::Zero(_) | Value::Infinity(_) | Value::NotANumber => 0,
     }
 }
 
@@ -34,6 +29,5 @@ pub fn gcd(f: Format, w: u64) -> Result<u64, Stop>
     ensures { result ≡ gcd_word f w }
 {
     let x = slash::check(f, w)?;
-    let v = x.value();
-    Ok(value_divisor(v))
+    Ok(value_divisor(x.value()))
 }

@@ -49,14 +49,11 @@ fn store(n: u32, d: u32, list: &mut [u32]) -> usize
     ensures counted { result ≡ length (quotients n d) }
     ensures stored { list.new ≡ quotients n d ++ drop (length (quotients n d)) list.old }
 {
-    let mut u = n;
-    let mut v = d;
+    let (mut u, mut v) = (n, d);
     let mut i: usize = 0;
     while v != 0 {
         list[i] = u / v;
-        let rest = u % v;
-        u = v;
-        v = rest;
+        (u, v) = (v, u % v);
         i += 1;
     }
     i
@@ -72,19 +69,14 @@ fn are_more(n: u32, d: u32, most: usize, places: usize) -> bool
     if most <= places {
         return false;
     }
-    let mut u = n;
-    let mut v = d;
-    let mut free = places;
-    while v != 0 {
-        if free == 0 {
-            return true;
+    let (mut u, mut v) = (n, d);
+    for _ in 0..places {
+        if v == 0 {
+            return false;
         }
-        let rest = u % v;
-        u = v;
-        v = rest;
-        free -= 1;
+        (u, v) = (v, u % v);
     }
-    false
+    v != 0
 }
 
 fn list_quotients(n: u32, d: u32, most: usize, list: &mut [u32]) -> Result<u64, Stop>

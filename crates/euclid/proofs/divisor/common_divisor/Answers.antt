@@ -6,8 +6,8 @@ use Rattle.euclid.proofs.divisor.common_divisor.Goals as goal
 pub loop-v-init : goal.loop-v-init
 loop-v-init c = common_start _ _
 
-pub nonzero_rem-rest : goal.nonzero_rem-rest
-nonzero_rem-rest c = omega arith
+pub nonzero_rem-v : goal.nonzero_rem-v
+nonzero_rem-v c = omega arith
 
 pub loop-v-smaller : goal.loop-v-smaller
 loop-v-smaller c = mod-lt c.loop-v.u (omega arith)

@@ -11,4 +11,4 @@ returns-in_err-x c = passed_on _ c.from_residual.ensures ∙ then_stop _ (check_
 
 pub returns : goal.returns
 unfolding gcd_word
-returns c = then_done _ (checked_done _ _ (check_good _ _ c.check.ensures c.in_ok-x.was) _ _ (check_value _ _ c.check.ensures c.in_ok-x.was c.value-v.ensures) refl) (ap done c.value_divisor.ensures)
+returns c = then_done _ (checked_done _ _ (check_good _ _ c.check.ensures c.in_ok-x.was) _ _ (check_value _ _ c.check.ensures c.in_ok-x.was c.value.ensures) refl) (ap done c.value_divisor.ensures)

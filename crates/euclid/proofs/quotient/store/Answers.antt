@@ -15,8 +15,8 @@ offset_bounds-list-i c = omega (arith, store_room c.loop-v.invariant c.requires 
 pub bounds-list-i : goal.bounds-list-i
 bounds-list-i c = store_room c.loop-v.invariant c.requires (omega arith)
 
-pub nonzero_rem-rest : goal.nonzero_rem-rest
-nonzero_rem-rest c = omega arith
+pub nonzero_rem-v : goal.nonzero_rem-v
+nonzero_rem-v c = omega arith
 
 pub overflow_add-i : goal.overflow_add-i
 overflow_add-i c = let w = c.loop-v.invariant in omega (arith, w.few)
