@@ -8,7 +8,7 @@ use mathlib.Core.Logic.{◌↔◌, ◌⊎◌, ⊎_elim}
 use mathlib.Core.List.{List, [], ◌∷◌, ◌++◌, append_assoc, append-nil}
 use Prim.Native.Nat.{ℕ, ◌+◌, ◌*◌, ◌/◌, ◌%◌, ◌^◌, ◌≤◌, ◌<◌}
 use native.Mathlib.Omega.{arith}
-use native.Mathlib.Nat.{mod-lt}
+use native.Mathlib.Decide.{ℕ_discrete}
 use native.Mathlib.Numerals.{add-one}
 use lib.ListN.{length, take, drop, set, length-set, length-append, take-append-drop}
 use lib.Seq.{length-take-le, take-suc-set, drop-set-lt, drop-drop}
@@ -52,7 +52,6 @@ example = (refl, refl, refl, refl)
 -- ---- storing
 
 pub record Storing (N D : ℕ) (old list : List ℕ) (u v i : ℕ) : Type 0 where
-  pub few : i + v ≤ D
   pub long : length list ≡ length old
   pub at : i ≤ length list
   pub rest : drop i list ≡ drop i old
@@ -60,7 +59,7 @@ pub record Storing (N D : ℕ) (old list : List ℕ) (u v i : ℕ) : Type 0 wher
 
 pub store_start : (N D : ℕ) (old : List ℕ) → Storing N D old old N D 0
 store_start N D old =
-    record { few = omega arith; long = refl; at = omega arith; rest = refl; total = refl }
+    record { long = refl; at = omega arith; rest = refl; total = refl }
 
 module _ {N D : ℕ} {old list : List ℕ} {u v i : ℕ} (s : Storing N D old list u v i) where
   module _ (room : length (quotients N D) ≤ length old) (l : 1 ≤ v) where
@@ -71,10 +70,8 @@ module _ {N D : ℕ} {old list : List ℕ} {u v i : ℕ} (s : Storing N D old li
 
     pub store_next : Storing N D old (set list i (u / v)) v (u % v) (i + 1)
     store_next =
-        let m : u % v < v = mod-lt u l in
         let r : i < length list = store_room in
         record {
-          few = omega (arith, s.few);
           long = length-set list i (u / v) ∙ s.long;
           at = omega (arith, length-set list i (u / v));
           rest =
@@ -92,6 +89,14 @@ module _ {N D : ℕ} {old list : List ℕ} {u v i : ℕ} (s : Storing N D old li
       in
       let k : length (quotients N D) ≡ i = ap length (sym e) ∙ length-take-le i list s.at in
       (sym k, sym (take-append-drop i list) ∙ rw (e, k, s.rest) refl)
+
+  -- a list that is full has all of them
+  pub store_all : length (quotients N D) ≤ length old → length old ≤ i → (length list ≡ length (quotients N D)) × (list ≡ quotients N D ++ drop (length (quotients N D)) old)
+  store_all room h = go (ℕ_discrete v 0)
+    where
+      go : Dec (v ≡ 0) → (length list ≡ length (quotients N D)) × (list ≡ quotients N D ++ drop (length (quotients N D)) old)
+      go (yes z) = let w = store_end z in (omega (arith, s.long, s.at, w.0, h), w.1)
+      go (no n) = absurd (omega (arith, s.long, h, store_room room (omega arith)))
 
 -- ---- a list that is long enough, or not
 

@@ -50,13 +50,14 @@ fn store(n: u32, d: u32, list: &mut [u32]) -> usize
     ensures stored { list.new ≡ quotients n d ++ drop (length (quotients n d)) list.old }
 {
     let (mut u, mut v) = (n, d);
-    let mut i: usize = 0;
-    while v != 0 {
-        list[i] = u / v;
+    for (i, place) in list.iter_mut().enumerate() {
+        if v == 0 {
+            return i;
+        }
+        *place = u / v;
         (u, v) = (v, u % v);
-        i += 1;
     }
-    i
+    list.len()
 }
 
 // Whether n/d, which has at most so many quotients, has more than there are places. Only where it may,

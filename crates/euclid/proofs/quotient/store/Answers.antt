@@ -1,33 +1,21 @@
 use native.Mathlib.Omega.{arith}
-use native.Mathlib.Nat.{mod-lt}
-use Rattle.euclid.proofs.QuotientLaws.{store_start, store_room, store_next, store_end}
+use mathlib.Core.Path.{◌∙◌}
+use Rattle.euclid.proofs.QuotientLaws.{store_start, store_next, store_end, store_all}
+use Rattle.std.proofs.lemmas.List.{set-get_or}
 use Rattle.euclid.proofs.quotient.store.Goals as goal
 
-pub loop-v-init : goal.loop-v-init
-loop-v-init c = store_start _ _ _
+pub loop-i-init : goal.loop-i-init
+loop-i-init c = store_start _ _ _
 
-pub nonzero_div-list : goal.nonzero_div-list
-nonzero_div-list c = omega arith
+pub returns-then-v-eq0 : goal.returns-then-v-eq0
+returns-then-v-eq0 c =
+    let both = store_end c.loop-i.invariant c.if-v-eq0.true in
+    record { counted = both.0; stored = set-get_or _ _ _ ∙ both.1 }
 
-pub offset_bounds-list-i : goal.offset_bounds-list-i
-offset_bounds-list-i c = omega (arith, store_room c.loop-v.invariant c.requires (omega arith))
-
-pub bounds-list-i : goal.bounds-list-i
-bounds-list-i c = store_room c.loop-v.invariant c.requires (omega arith)
-
-pub nonzero_rem-v : goal.nonzero_rem-v
-nonzero_rem-v c = omega arith
-
-pub overflow_add-i : goal.overflow_add-i
-overflow_add-i c = let w = c.loop-v.invariant in omega (arith, w.few)
-
-pub loop-v-smaller : goal.loop-v-smaller
-loop-v-smaller c = mod-lt c.loop-v.u (omega arith)
-
-pub loop-v-preserved : goal.loop-v-preserved
-loop-v-preserved c = store_next c.loop-v.invariant c.requires (omega arith)
+pub loop-i-preserved : goal.loop-i-preserved
+loop-i-preserved c = store_next c.loop-i.invariant c.requires (omega arith)
 
 pub returns : goal.returns
 returns c =
-    let both = (store_end c.loop-v.invariant (omega arith)) in
+    let both = store_all c.loop-i.invariant c.requires c.loop-i-test.false in
     record { counted = both.0; stored = both.1 }
