@@ -66,18 +66,20 @@ pub count_start : (N D : ℕ) → Counting N D N D 0
 count_start N D = record { few = omega arith; total = omega arith }
 
 -- or with the larger part first
-module _ (N D : ℕ) {u v i : ℕ} where
+abbrev pub Begun : (N D : ℕ) → ℕ × ℕ × ℕ → Type 0
+Begun N D t = Counting N D t.0 t.1 t.2 × (t.1 ≤ t.0) × (t.2 ≤ 1)
+
+module _ (N D : ℕ) {t : ℕ × ℕ × ℕ} where
   -- below 1 the first quotient is 0 and leaves N
-  pub count_below : N < D → u ≡ D → v ≡ N → i ≡ 1 → Counting N D u v i × (v ≤ u)
-  count_below l e f g =
+  pub count_below : N < D → t ≡ (D, N, 1) → Begun N D t
+  count_below l e =
       let some : 1 ≤ D = omega arith in
       let r : length (quotients D (N % D)) ≡ length (quotients D N) = ap (λ (x : ℕ). length (quotients D x)) (mod-eq_of_lt l) in
       let c : Counting N D D N 1 = record { few = omega arith; total = omega (arith, ap length (next_quotient N D some)) } in
-      (rw (e, f, g) c, omega arith)
+      rw e (c, omega arith, omega arith)
 
-  pub count_above : D ≤ N → u ≡ N → v ≡ D → i ≡ 0 → Counting N D u v i × (v ≤ u)
-  count_above l e f g =
-      (rw (e, f, g) (count_start N D), omega arith)
+  pub count_above : D ≤ N → t ≡ (N, D, 0) → Begun N D t
+  count_above l e = rw e (count_start N D, l, omega arith)
 
 module _ {N D u v i : ℕ} (c : Counting N D u v i) where
   -- a first quotient 1

@@ -12,15 +12,8 @@ use slash::{Format, Stop};
 fn count(n: u32, d: u32) -> usize
     ensures { result ≡ length (quotients n d) }
 {
-    let mut u = n;
-    let mut v = d;
-    let mut i: usize = 0;
     // Below 1 the first quotient is 0, and n is the rest.
-    if n < d {
-        u = d;
-        v = n;
-        i = 1;
-    }
+    let (mut u, mut v, mut i) = if n < d { (d, n, 1) } else { (n, d, 0) };
     // Below 2 the next is 1, and is counted as in the loop.
     let over = u - v;
     if over < v {

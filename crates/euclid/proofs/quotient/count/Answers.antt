@@ -1,21 +1,24 @@
 use native.Mathlib.Omega.{arith}
-use Prim.Native.Nat.{◌≤◌}
-use Rattle.euclid.proofs.CountLaws.{Counting, count_below, count_above, count_nearer, count_as, rest_less, count_one, count_two, count_end}
+use Rattle.euclid.proofs.CountLaws.{Begun, count_below, count_above, count_nearer, count_as, rest_less, count_one, count_two, count_end}
 use Rattle.euclid.proofs.quotient.count.Goals as goal
 use Rattle.euclid.proofs.quotient.count.Goals.{then-n-d, else-n-d, then-over-v, else-over-v}
 
 pub overflow_sub-over : goal.overflow_sub-over
 overflow_sub-over c =
-    elim c.if-n-d.branch [ then-n-d w ↦ omega arith | else-n-d w ↦ omega arith ]
+    let begun : Begun c.args.n c.args.d c.if-n-d.u =
+    elim c.if-n-d.branch [ then-n-d w ↦ count_below _ _ w.if-n-d.true w.u-is | else-n-d w ↦ count_above _ _ w.if-n-d.false w.u-is ] in
+    begun.1
 
 pub overflow_add-i : goal.overflow_add-i
 overflow_add-i c =
-    elim c.if-n-d.branch [ then-n-d w ↦ omega arith | else-n-d w ↦ omega arith ]
+    let begun : Begun c.args.n c.args.d c.if-n-d.u =
+    elim c.if-n-d.branch [ then-n-d w ↦ count_below _ _ w.if-n-d.true w.u-is | else-n-d w ↦ count_above _ _ w.if-n-d.false w.u-is ] in
+    omega (arith, begun.2)
 
 pub loop-v-init : goal.loop-v-init
 loop-v-init c =
-    let begun : Counting c.args.n c.args.d c.if-n-d.u c.if-n-d.v c.if-n-d.i × (c.if-n-d.v ≤ c.if-n-d.u) =
-    elim c.if-n-d.branch [ then-n-d w ↦ count_below _ _ w.if-n-d.true w.u-is w.v-is w.i-is | else-n-d w ↦ count_above _ _ w.if-n-d.false w.u-is w.v-is w.i-is ] in
+    let begun : Begun c.args.n c.args.d c.if-n-d.u =
+    elim c.if-n-d.branch [ then-n-d w ↦ count_below _ _ w.if-n-d.true w.u-is | else-n-d w ↦ count_above _ _ w.if-n-d.false w.u-is ] in
     elim c.if-over-v.branch [ then-over-v w ↦ count_nearer begun.0 begun.1 w.if-over-v.true w.v-is w.i-is | else-over-v w ↦ count_as begun.0 w.v-is w.i-is ]
 
 pub nonzero_rem-above : goal.nonzero_rem-above
