@@ -1,9 +1,9 @@
 -- Counting partial quotients. Assumes nothing.
 -- `next_quotient`, `no_quotient`: one turn of Euclid's algorithm, and its end. `two_quotients`: where the rest is nearer to the divisor than
--- to 0, the quotient that follows is 1, so that one division counts two; `nearer`: the same of a first quotient 1. `count_end`, `more_left`,
--- `none_left`: what the loops come to. `few`: n/d has at most 2j quotients where d is below 2^j.
+-- to 0, the quotient that follows is 1, so that one division counts two; `nearer`: the same of a first quotient 1. `count_end`, `take_more`,
+-- `take_end`, `taken`: what the loops come to. `few`: n/d has at most 2j quotients where d is below 2^j.
 use mathlib.Core.Path.{◌≡◌, refl, sym, ap, ◌∙◌, subst}
-use mathlib.Core.Bool.{false, not}
+use mathlib.Core.Bool.{true, false, not}
 use mathlib.Core.List.{List, [], ◌∷◌}
 use Prim.Native.Nat.{ℕ, zero, suc, ◌+◌, ◌-◌, ◌*◌, ◌/◌, ◌%◌, ◌^◌, ◌≤◌, ◌<◌}
 use native.Mathlib.Omega.{arith}
@@ -108,20 +108,35 @@ module _ {N D u v i : ℕ} (c : Counting N D u v i) where
   pub count_end : v ≡ 0 → i ≡ length (quotients N D)
   count_end z = omega (arith, c.total, ap length (no_quotient u v z))
 
-  -- whether there are more than those counted, by the divisor that is left
-  pub more_left : not (eqb v 0) ≡ ltb i (length (quotients N D))
-  more_left = go (ℕ_discrete v 0)
-    where
-      go : Dec (v ≡ 0) → not (eqb v 0) ≡ ltb i (length (quotients N D))
-      go (yes z) = rw (eq-eqb v 0 z, le-ltb i (length (quotients N D)) (omega (arith, count_end z))) refl
-      go (no n) =
-          let some : 1 ≤ v = omega arith in
-          let l : i < length (quotients N D) = omega (arith, c.total, ap length (next_quotient u v some)) in
-          rw (ne_eqb v 0 n, lt-ltb _ _ l) refl
+-- the loop that looks whether there are more quotients than places, of which so many are free
+pub record Taking (N D places u v free : ℕ) : Type 0 where
+  pub total : length (quotients N D) + free ≡ length (quotients u v) + places
 
-  -- and none after the last one
-  pub none_left : v ≡ 0 → {places : ℕ} → i < places → false ≡ ltb places (length (quotients N D))
-  none_left z l = sym (le-ltb _ _ (omega (arith, count_end z, l)))
+pub take_start : (N D places : ℕ) → Taking N D places N D places
+take_start N D places = record { total = refl }
+
+module _ {N D places u v free : ℕ} (t : Taking N D places u v free) where
+  module _ (some : 1 ≤ v) where
+    pub take_next : 1 ≤ free → Taking N D places v (u % v) (free - 1)
+    take_next l = record { total = omega (arith, t.total, ap length (next_quotient u v some)) }
+
+    pub take_more : free ≡ 0 → true ≡ ltb places (length (quotients N D))
+    take_more z =
+        let l : places < length (quotients N D) = omega (arith, t.total, ap length (next_quotient u v some)) in
+        sym (lt-ltb _ _ l)
+
+  pub take_end : v ≡ 0 → false ≡ ltb places (length (quotients N D))
+  take_end z =
+      let l : length (quotients N D) ≤ places = omega (arith, t.total, ap length (no_quotient u v z)) in
+      sym (le-ltb _ _ l)
+
+  -- where no place is free, the divisor that is left tells it
+  pub taken : free ≡ 0 → not (eqb v 0) ≡ ltb places (length (quotients N D))
+  taken z = go (ℕ_discrete v 0)
+    where
+      go : Dec (v ≡ 0) → not (eqb v 0) ≡ ltb places (length (quotients N D))
+      go (yes e) = rw (eq-eqb v 0 e) (take_end e)
+      go (no n) = let some : 1 ≤ v = omega arith in rw (ne_eqb v 0 n) (take_more some z)
 
 -- ---- how many there can be
 

@@ -1,28 +1,24 @@
 use native.Mathlib.Omega.{arith}
 use native.Mathlib.Nat.{le_trans}
-use mathlib.Core.Path.{◌≡◌, sym, ap, ◌∙◌}
-use Prim.Native.Nat.{ℕ}
-use lib.Dec.{ltb}
-use lib.ListN.{length}
+use mathlib.Core.Path.{◌≡◌, sym, subst}
+use Prim.Native.Nat.{◌+◌, ◌-◌}
 use borrow.Author.Tests.{le-ltb}
-use Rattle.convergents.specs.Convergents.{quotients}
-use Rattle.euclid.proofs.CountLaws.{count_start, count_one, more_left, none_left}
+use Rattle.euclid.proofs.CountLaws.{Taking, take_start, take_next, take_end, taken}
 use Rattle.euclid.proofs.quotient.are_more.Goals as goal
 
 pub returns-then-most-places : goal.returns-then-most-places
 returns-then-most-places c = sym (le-ltb _ _ (le_trans c.requires c.if-most-places.true))
 
 pub loop-init : goal.loop-init
-loop-init c = count_start _ _
+loop-init c = let e : c.args.places ≡ c.args.places - 0 = omega arith in subst (Taking c.args.n c.args.d c.args.places c.args.n c.args.d) e (take_start _ _ _)
 
 pub returns-then-v-eq0 : goal.returns-then-v-eq0
-returns-then-v-eq0 c = none_left c.loop.invariant c.if-v-eq0.true c.loop-test.true
+returns-then-v-eq0 c = take_end c.loop.invariant c.if-v-eq0.true
 
 pub loop-preserved : goal.loop-preserved
-loop-preserved c = count_one c.loop.invariant (omega arith)
+loop-preserved c =
+    let e : c.args.places - c.loop.counter - 1 ≡ c.args.places - (c.loop.counter + 1) = omega arith in
+    subst (Taking c.args.n c.args.d c.args.places _ _) e (take_next c.loop.invariant (omega arith) (omega arith))
 
 pub returns : goal.returns
-returns c =
-    let start = c in
-    let all : c.loop.counter ≡ start.args.places = omega (arith, c.loop.auto.counter-end, c.loop-test.false) in
-    more_left c.loop.invariant ∙ ap (λ (i : ℕ). ltb i (length (quotients start.args.n start.args.d))) all
+returns c = taken c.loop.invariant (omega arith)

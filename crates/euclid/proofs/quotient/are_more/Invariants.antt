@@ -1,5 +1,6 @@
-use Rattle.euclid.proofs.CountLaws.{Counting}
+use Prim.Native.Nat.{◌-◌}
+use Rattle.euclid.proofs.CountLaws.{Taking}
 use Rattle.euclid.proofs.quotient.are_more.Given as goal
 
 abbrev pub invariant-loop : goal.invariant-loop
-invariant-loop l = Counting l.n l.d l.u l.v l.counter
+invariant-loop l = Taking l.n l.d l.places l.u l.v (l.places - l.counter)
