@@ -11,10 +11,11 @@ use native.Mathlib.Nat.{pow-suc, pow-le-pow_right}
 use native.Mathlib.Numerals.{add-one}
 use native.Mathlib.Decide.{dec_le, ℕ_discrete}
 use lib.Dec.{eqb, leb, ltb}
-use lib.ListN.{length, get_or, take, drop, length-append, length-take, length-drop}
-use lib.Seq.{take-append-le, take-append_seam, take-take, split_at, take-suc, take_all, get_or-drop}
+use lib.ListN.{length, get_or, take, drop, length-append, length-take}
+use lib.Seq.{take-append-le, take-append_seam, take-take, split_at, take-suc, take_all}
 use borrow.Author.Tests.{eq-eqb, ne_eqb, le-leb, lt-leb, le-ltb, lt-ltb, leb-true, leb-false}
 use Rattle.std.specs.Prelude.{Option, Some, None, Result, Ok, Err, IsErr, IsErrAnd}
+use Rattle.std.specs.Char.{is_ascii_digit}
 use Rattle.std.specs.Option.{ok_or}
 use Rattle.std.specs.Prelude.{if◌then◌else◌}
 use Rattle.breaths.specs.Breaths.{breath_of}
@@ -60,6 +61,14 @@ digit_bounds x t e = go (leb 48 x) refl (leb x 57) refl t refl e
     go true ae false be c ce f = let z : ◌≡◌ {A = ℕ} 0 1 = cc in absurd (omega arith)
     go false ae b be c ce f = let z : ◌≡◌ {A = ℕ} 0 1 = cc in absurd (omega arith)
 
+-- the library's test of a digit
+ascii_digit : (x : ℕ) {t : Bool} → is_ascii_digit x ≡ t → is_digit x ≡ t
+unfolding is_digit
+ascii_digit x e = e
+
+ascii_bounds : (x : ℕ) → is_ascii_digit x ≡ true → (48 ≤ x) × (x ≤ 57)
+ascii_bounds x e = let w = digit_bounds x true (ap (λ (b : Bool). b && true) (ascii_digit x e)) in (w.0, w.1)
+
 -- one digit more, whether the number is still a tick mark or not
 digit_more : (v x : ℕ) (xs : List ℕ) → 48 ≤ x → x ≤ 57
     → (if leb v 4294967295 then digits_from v (x ∷ xs) else None)
@@ -81,74 +90,55 @@ digit_more v x xs low high = go (dec_le (v * 10 + (x - 48)) 4294967295) (dec_le 
         rw (lt-leb _ _ above, lt-leb _ _ more) refl
 
 -- the digits read so far, and that any bytes behind them go on from their number
-pub record Leading (bs : List ℕ) (from limit v i : ℕ) : Type 0 where
-  pub count : ℕ
-  pub place : i ≡ from + count
-  pub within : i ≤ limit
-  pub few : v < 10 ^ count
-  pub goes : (xs : List ℕ) → digits_from 0 (take count (drop from bs) ++ xs) ≡ (if leb v 4294967295 then digits_from v xs else None)
+pub record Leading (bs : List ℕ) (v i : ℕ) : Type 0 where
+  pub few : v < 10 ^ i
+  pub goes : (xs : List ℕ) → digits_from 0 (take i bs ++ xs) ≡ (if leb v 4294967295 then digits_from v xs else None)
 
-pub leading_start : (bs : List ℕ) (from limit : ℕ) → from ≤ limit → Leading bs from limit 0 from
-leading_start bs from limit h = record { count = 0; place = omega arith; within = h; few = omega arith; goes = λ xs. refl }
+pub leading_start : (bs : List ℕ) → Leading bs 0 0
+leading_start bs = record { few = omega arith; goes = λ xs. refl }
 
-module _ {bs : List ℕ} {from limit v i : ℕ} (d : Leading bs from limit v i) where
-  abbrev rest : List ℕ
-  rest = drop from bs
+module _ {bs : List ℕ} {v i : ℕ} (d : Leading bs v i) where
+  pub leading_end : i ≡ length bs → LeadingDigits bs v i
+  leading_end e = record { within = omega arith; few = d.few; goes = d.goes; stopped = λ h. absurd (omega arith) }
 
-  -- ten digits fit 64 bits
-  pub leading_small : limit ≤ from + 10 → i < limit → v < 10 ^ 9
-  leading_small h l =
-      let most : 10 ^ d.count ≤ 10 ^ 9 = pow-le-pow_right {n = 10} (omega arith) {i = d.count} {j = 9} (omega (arith, d.place)) in
-      omega (arith, d.few)
+  module _ (l : i < length bs) where
+    -- ten digits fit 64 bits
+    pub leading_small : length bs ≤ 10 → v < 10 ^ 9
+    leading_small h =
+        let most : 10 ^ i ≤ 10 ^ 9 = pow-le-pow_right {n = 10} (omega arith) {i = i} {j = 9} (omega arith) in
+        omega (arith, d.few)
 
-  pub leading_end : limit ≤ i → LeadingDigits bs from limit v i
-  leading_end l = record { count = d.count; place = d.place; within = d.within; few = d.few; goes = d.goes; stopped = λ h. absurd (omega arith) }
+    abbrev x : ℕ
+    x = get_or bs i 0
 
-  abbrev x : ℕ
-  x = get_or bs i 0
+    pub leading_stopped : is_ascii_digit x ≡ false → LeadingDigits bs v i
+    leading_stopped h = record { within = omega arith; few = d.few; goes = d.goes; stopped = λ _ t. ap (λ (b : Bool). b && t) (ascii_digit x h) }
 
-  pub leading_low : x < 48 → LeadingDigits bs from limit v i
-  leading_low h = record { count = d.count; place = d.place; within = d.within; few = d.few; goes = d.goes; stopped = λ _. digit_low _ h }
-
-  pub leading_high : 57 < x → LeadingDigits bs from limit v i
-  leading_high h = record { count = d.count; place = d.place; within = d.within; few = d.few; goes = d.goes; stopped = λ _. digit_high _ h }
-
-  pub leading_next : i < limit → limit ≤ length bs → 48 ≤ x → x ≤ 57 → Leading bs from limit (v * 10 + (x - 48)) (i + 1)
-  leading_next l long low high =
-      let y : ℕ = get_or rest d.count 0 in
-      let short : d.count < length rest = omega (arith, l, d.place, length-drop from bs) in
-      let here : y ≡ x = get_or-drop from bs d.count 0 ∙ ap (λ (j : ℕ). get_or bs j 0) (sym d.place) in
-      record {
-        count = suc d.count;
-        place = omega (arith, d.place);
-        within = omega arith;
-        few = omega (arith, d.few, pow-suc 10 d.count);
-        goes = λ xs.
-            ap (λ (t : List ℕ). digits_from 0 (t ++ xs)) (take-suc rest d.count 0 short)
-            ∙ ap (digits_from 0) (append_assoc (take d.count rest) (y ∷ []) xs)
-            ∙ d.goes (y ∷ xs)
-            ∙ ap (λ (z : ℕ). if leb v 4294967295 then digits_from v (z ∷ xs) else None) here
-            ∙ digit_more v x xs low high;
-      }
+    pub leading_next : is_ascii_digit x ≡ true → Leading bs (v * 10 + (x - 48)) (i + 1)
+    leading_next digit =
+        let w = ascii_bounds x digit in
+        subst (Leading bs (v * 10 + (x - 48))) (sym (add-one i)) (record {
+          few = omega (arith, d.few, pow-suc 10 i);
+          goes = λ xs.
+              ap (λ (t : List ℕ). digits_from 0 (t ++ xs)) (take-suc bs i 0 l)
+              ∙ ap (digits_from 0) (append_assoc (take i bs) (x ∷ []) xs)
+              ∙ d.goes (x ∷ xs)
+              ∙ digit_more v x xs w.0 w.1;
+        })
 
 -- the digits alone, where their number is a tick mark
-pub leading_tick : {bs : List ℕ} {from limit v k : ℕ} (l : LeadingDigits bs from limit v k) → v ≤ 4294967295 → digits_from 0 (take l.count (drop from bs)) ≡ Some v
+pub leading_tick : {bs : List ℕ} {v k : ℕ} (l : LeadingDigits bs v k) → v ≤ 4294967295 → digits_from 0 (take k bs) ≡ Some v
 unfolding digits_from
-leading_tick {bs} {from} {limit} {v} l h =
-    ap (digits_from 0) (sym (append-nil (take l.count (drop from bs)))) ∙ l.goes [] ∙ rw (le-leb _ _ h) refl
+leading_tick {bs} {v} {k} l h = ap (digits_from 0) (sym (append-nil (take k bs))) ∙ l.goes [] ∙ rw (le-leb _ _ h) refl
 
-module _ {ds : List ℕ} {v k : ℕ} (l : LeadingDigits ds 0 (length ds) v k) where
+module _ {ds : List ℕ} {v k : ℕ} (l : LeadingDigits ds v k) where
   pub digits_wrong : k < length ds → None ≡ digits_from 0 ds
   digits_wrong h =
-      let c : ℕ = l.count in
-      let more : List ℕ = drop (suc c) ds in
-      let place : k ≡ c = omega (arith, l.place) in
-      let other : (is_digit (get_or ds c 0) && leb (v * 10 + (get_or ds c 0 - 48)) 4294967295) ≡ false =
-      ap (λ (j : ℕ). is_digit (get_or ds j 0) && leb (v * 10 + (get_or ds c 0 - 48)) 4294967295) (sym place) ∙ l.stopped h _
-      in
+      let x : ℕ = get_or ds k 0 in
+      let more : List ℕ = drop (suc k) ds in
       sym (
-      ap (digits_from 0) (split_at ds c 0 (omega arith)) ∙ l.goes (get_or ds c 0 ∷ more)
-      ∙ ap (λ (m : Option ℕ). if leb v 4294967295 then m else None) (digits_step v (get_or ds c 0) more false other)
+      ap (digits_from 0) (split_at ds k 0 (omega arith)) ∙ l.goes (x ∷ more)
+      ∙ ap (λ (m : Option ℕ). if leb v 4294967295 then m else None) (digits_step v x more false (l.stopped h _))
       ∙ same (leb v 4294967295)
       )
     where
@@ -157,8 +147,8 @@ module _ {ds : List ℕ} {v k : ℕ} (l : LeadingDigits ds 0 (length ds) v k) wh
       same false = refl
 
   module _ (h : length ds ≤ k) where
-    all : take l.count ds ≡ ds
-    all = take_all l.count ds (omega (arith, l.place))
+    all : take k ds ≡ ds
+    all = take_all k ds h
 
     pub digits_above : 4294967295 < v → None ≡ digits_from 0 ds
     digits_above o = sym (ap (digits_from 0) (sym (append-nil ds) ∙ ap (λ (t : List ℕ). t ++ []) (sym all)) ∙ l.goes [] ∙ rw (lt-leb _ _ o) refl)

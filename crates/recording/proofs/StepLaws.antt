@@ -10,44 +10,45 @@ use native.Mathlib.Omega.{arith}
 use native.Mathlib.Nat.{add-zero, pow-le-pow_right}
 use lib.Dec.{leb}
 use lib.ListN.{length, get_or, take, drop, length-append, length-take, length-drop}
-use lib.Seq.{length-take-le, split_at, take_at, drop_at, drop-drop, get_or-take, get_or-drop}
+use lib.Seq.{length-take-le, take-take, split_at, take_at, drop_at, drop-drop, get_or-take, get_or-drop}
 use borrow.Author.Tests.{ne_eqb}
 use Rattle.std.specs.Prelude.{Option, Some, None, Ok, Err}
+use Rattle.std.specs.Char.{is_ascii_digit}
 use Rattle.breaths.specs.Breaths.{breath_of}
 use Rattle.text.specs.Scan.{is_digit, in_first, parted, length_before}
 use Rattle.recording.specs.Lines.{digits_from, from_ticks, from_fields, read_line}
-use Rattle.recording.specs.Steps.{LeadingDigits, TickAt, BreathFound, DigitsEnd, TickEnd, TickEndFound, LineLength, LineLengthFound}
+use Rattle.recording.specs.Steps.{LeadingDigits, TickAt, BreathFound, DigitCount, TickEnd, TickEndFound, LineLength, LineLengthFound}
 use Rattle.breaths.specs.declared.breath.Breath.{Breath}
 use Rattle.recording.specs.declared.line.Entry.{Entry}
 use Rattle.text.proofs.ScanLaws.{before_step, before_le, before_take}
 use Rattle.text.proofs.PartLaws.{parted_step, parted_none}
-use Rattle.recording.proofs.LineLaws.{Leading, leading_start, leading_end, leading_low, leading_high, leading_next, digits_step, no_tick, digit_bounds, tick_digits, leading_tick, start_some}
+use Rattle.recording.proofs.LineLaws.{Leading, leading_start, leading_end, leading_stopped, leading_next, digits_step, no_tick, digit_bounds, tick_digits, leading_tick, start_some}
 
 -- ---- a tick mark and the byte that ends it
 
-pub tick_at : {bs : List ℕ} {from limit v k : ℕ} (e : ℕ) → from + 11 ≤ length bs → limit ≤ from + 10 → LeadingDigits bs from limit v k → get_or bs k 0 ≡ e → (k ≡ from → ⊥)
-    → v ≤ 4294967295 → (get_or bs from 0 ≡ 48 → ⊥) ⊎ (k ≤ from + 1) → TickAt bs from e v (k + 1)
-tick_at {bs} {from} {limit} {v} {k} e long few l ended some small lead =
+pub tick_at : {bs : List ℕ} {from limit v c : ℕ} (e : ℕ) → from + 11 ≤ length bs → limit ≤ from + 10 → LeadingDigits (take (limit - from) (drop from bs)) v c
+    → get_or bs (from + c) 0 ≡ e → (from + c ≡ from → ⊥) → v ≤ 4294967295 → (get_or bs from 0 ≡ 48 → ⊥) ⊎ (from + c ≤ from + 1) → TickAt bs from e v (from + c + 1)
+tick_at {bs} {from} {limit} {v} {c} e long few l ended some small lead =
     let rest : List ℕ = drop from bs in
-    let c : ℕ = l.count in
-    let more : c < length rest = omega (arith, l.place, l.within, length-drop from bs) in
-    let positive : 1 ≤ c = omega (arith, l.place) in
+    let most : c ≤ limit - from = omega (arith, l.within, length-take (limit - from) rest) in
+    let more : c < length rest = omega (arith, most, length-drop from bs) in
     let exact : length (take c rest) ≡ c = length-take-le c rest (omega arith) in
     let first : get_or (take c rest) 0 0 ≡ get_or bs from 0 =
     get_or-take c rest 0 0 (omega arith) ∙ get_or-drop from bs 0 0 ∙ ap (λ (j : ℕ). get_or bs j 0) (add-zero from)
     in
     let leads : (get_or (take c rest) 0 0 ≡ 48 → ⊥) ⊎ (length (take c rest) ≤ 1) =
-    ⊎_elim (λ n. inl (λ z. n (sym first ∙ z))) (λ s. inr (omega (arith, l.place))) lead
+    ⊎_elim (λ n. inl (λ z. n (sym first ∙ z))) (λ s. inr (omega arith)) lead
     in
-    let last : get_or rest c 0 ≡ e = get_or-drop from bs c 0 ∙ ap (λ (j : ℕ). get_or bs j 0) (sym l.place) ∙ ended in
+    let last : get_or rest c 0 ≡ e = get_or-drop from bs c 0 ∙ ended in
+    let digits : digits_from 0 (take c rest) ≡ Some v = ap (digits_from 0) (sym (take-take c (limit - from) rest most)) ∙ leading_tick l small in
     record {
       field = take c rest;
       rest = drop (suc c) rest;
       bytes = split_at rest c 0 more ∙ ap (λ (x : ℕ). take c rest ++ (x ∷ drop (suc c) rest)) last;
-      digits = leading_tick l small;
-      tick = sym (tick_digits (take c rest) (omega arith) leads) ∙ leading_tick l small;
-      place = omega (arith, l.place, exact);
-      short = omega (arith, l.within);
+      digits = digits;
+      tick = sym (tick_digits (take c rest) (omega arith) leads) ∙ digits;
+      place = omega (arith, exact);
+      short = omega (arith, most);
     }
 
 module _ {bs : List ℕ} {from e : ℕ} where
@@ -175,32 +176,30 @@ breath_found bs w d = subst (BreathFound bs) d w
 -- ---- the same without the numbers
 
 -- digits so far, whatever their number
-pub record Running (bs : List ℕ) (from limit i : ℕ) : Type 0 where
+pub record Running (bs : List ℕ) (i : ℕ) : Type 0 where
   pub value : ℕ
-  pub leading : Leading bs from limit value i
+  pub leading : Leading bs value i
 
-pub running_start : (bs : List ℕ) (from limit : ℕ) → from ≤ limit → Running bs from limit from
-running_start bs from limit h = record { value = 0; leading = leading_start bs from limit h }
+pub running_start : (bs : List ℕ) → Running bs 0
+running_start bs = record { value = 0; leading = leading_start bs }
 
-module _ {bs : List ℕ} {from limit i : ℕ} (d : Running bs from limit i) where
-  pub running_end : limit ≤ i → DigitsEnd bs from limit i
-  running_end l = record { value = d.value; leading = leading_end d.leading l }
+module _ {bs : List ℕ} {i : ℕ} (d : Running bs i) where
+  pub running_end : i ≡ length bs → DigitCount bs i
+  running_end e = record { value = d.value; leading = leading_end d.leading e }
 
-  pub running_low : get_or bs i 0 < 48 → DigitsEnd bs from limit i
-  running_low h = record { value = d.value; leading = leading_low d.leading h }
+  module _ (l : i < length bs) where
+    pub running_stopped : is_ascii_digit (get_or bs i 0) ≡ false → DigitCount bs i
+    running_stopped h = record { value = d.value; leading = leading_stopped d.leading l h }
 
-  pub running_high : 57 < get_or bs i 0 → DigitsEnd bs from limit i
-  running_high h = record { value = d.value; leading = leading_high d.leading h }
-
-  pub running_next : i < limit → limit ≤ length bs → 48 ≤ get_or bs i 0 → get_or bs i 0 ≤ 57 → Running bs from limit (i + 1)
-  running_next l long low high = record { value = d.value * 10 + (get_or bs i 0 - 48); leading = leading_next d.leading l long low high }
+    pub running_next : is_ascii_digit (get_or bs i 0) ≡ true → Running bs (i + 1)
+    running_next h = record { value = d.value * 10 + (get_or bs i 0 - 48); leading = leading_next d.leading l h }
 
 -- nine digits are no number above the largest
-pub tick_ends : {bs : List ℕ} {from k : ℕ} (e : ℕ) → from + 11 ≤ length bs → DigitsEnd bs from (from + 9) k → get_or bs k 0 ≡ e → (k ≡ from → ⊥)
-    → (get_or bs from 0 ≡ 48 → ⊥) ⊎ (k ≤ from + 1) → TickEnd bs from e (k + 1)
-tick_ends {bs} {from} {k} e long r ended some lead =
-    let l : LeadingDigits bs from (from + 9) r.value k = r.leading in
-    let nine : 10 ^ l.count ≤ 10 ^ 9 = pow-le-pow_right {n = 10} (omega arith) {i = l.count} {j = 9} (omega (arith, l.place, l.within)) in
+pub tick_ends : {bs : List ℕ} {from c : ℕ} (e : ℕ) → from + 11 ≤ length bs → DigitCount (take (from + 9 - from) (drop from bs)) c → get_or bs (from + c) 0 ≡ e
+    → (from + c ≡ from → ⊥) → (get_or bs from 0 ≡ 48 → ⊥) ⊎ (from + c ≤ from + 1) → TickEnd bs from e (from + c + 1)
+tick_ends {bs} {from} {c} e long r ended some lead =
+    let l : LeadingDigits (take (from + 9 - from) (drop from bs)) r.value c = r.leading in
+    let nine : 10 ^ c ≤ 10 ^ 9 = pow-le-pow_right {n = 10} (omega arith) {i = c} {j = 9} (omega (arith, l.within, length-take (from + 9 - from) (drop from bs))) in
     record { ticks = r.value; tick = tick_at e long (omega arith) l ended some (omega (arith, l.few, nine)) lead }
 
 three_ticks : {bs : List ℕ} {i j k : ℕ} → TickEnd bs 0 9 i → TickEnd bs i 9 j → TickEnd bs j 10 k → LineLength bs k

@@ -9,15 +9,13 @@ use Rattle.recording.specs.Lines.{digits_from, read_tick, read_line}
 use Rattle.recording.specs.Reading.{Coming}
 use Rattle.recording.specs.declared.line.Entry.{Entry}
 
--- From place `from` on stand the digits of v, up to place `end`: there is no digit, or it is the limit. Whatever bytes stand behind them go on
--- from v, where v is a tick mark.
-pub record LeadingDigits (bs : List ℕ) (from limit v end : ℕ) : Type 0 where
-  pub count : ℕ
-  pub place : end ≡ from + count
-  pub within : end ≤ limit
+-- Some bytes start with so many digits, those of v: there is no digit behind them, or no byte. Whatever bytes stand behind them go on from v,
+-- where v is a tick mark.
+pub record LeadingDigits (bs : List ℕ) (v count : ℕ) : Type 0 where
+  pub within : count ≤ length bs
   pub few : v < 10 ^ count
-  pub goes : (xs : List ℕ) → digits_from 0 (take count (drop from bs) ++ xs) ≡ (if leb v most_ticks then digits_from v xs else None)
-  pub stopped : end < limit → (t : Bool) → (is_digit (get_or bs end 0) && t) ≡ false
+  pub goes : (xs : List ℕ) → digits_from 0 (take count bs ++ xs) ≡ (if leb v most_ticks then digits_from v xs else None)
+  pub stopped : count < length bs → (t : Bool) → (is_digit (get_or bs count 0) && t) ≡ false
 
 -- From place `from` on stands the tick mark t, and then the byte e, which ends it.
 pub record TickAt (bs : List ℕ) (from e t behind : ℕ) : Type 0 where
@@ -41,9 +39,9 @@ BreathFound bs None = Unit {0}
 
 -- ---- the same without the numbers: what a line's length is found by
 
-pub record DigitsEnd (bs : List ℕ) (from limit end : ℕ) : Type 0 where
+pub record DigitCount (bs : List ℕ) (count : ℕ) : Type 0 where
   pub value : ℕ
-  pub leading : LeadingDigits bs from limit value end
+  pub leading : LeadingDigits bs value count
 
 pub record TickEnd (bs : List ℕ) (from e behind : ℕ) : Type 0 where
   pub ticks : ℕ

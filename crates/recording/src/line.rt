@@ -24,29 +24,29 @@ pub struct Entry {
     pub used: usize,
 }
 
-// The number of some digits, and the place behind them.
+// The number of some digits, and how many they are.
 #[derive(Clone, Copy)]
-pub(crate) struct Digits {
-    pub(crate) value: u64,
-    pub(crate) end: usize,
+struct Digits {
+    value: u64,
+    count: usize,
 }
 
-// The digits from a place on, up to a limit. Ten digits fit 64 bits, and no tick mark has more.
-fn leading_digits(bytes: &[u8], from: usize, limit: usize) -> Digits
-    requires { (from ≤ limit) × (limit ≤ from + 10) × (limit ≤ length bytes.now) }
-    ensures { LeadingDigits bytes.now from limit result.value result.end }
+// The digits at the start of some bytes. Ten digits fit 64 bits, and no tick mark has more.
+fn leading_digits(bytes: &[u8]) -> Digits
+    requires { length bytes.now ≤ 10 }
+    ensures { LeadingDigits bytes.now result.value result.count }
 {
     let mut value: u64 = 0;
-    let mut i = from;
-    while i < limit {
-        let b = bytes[i];
-        if b < b'0' || b'9' < b {
-            return Digits { value, end: i };
+    for (i, b) in bytes.iter().enumerate() {
+        if !b.is_ascii_digit() {
+            return Digits { value, count: i };
         }
-        value = value * 10 + (b - b'0') as u64;
-        i += 1;
+        value = value * 10 + (*b - b'0') as u64;
     }
-    Digits { value, end: i }
+    Digits {
+        value,
+        count: bytes.len(),
+    }
 }
 
 // The number of some digits; none where it is no tick mark.
@@ -54,8 +54,8 @@ fn read_digits(digits: &[u8]) -> Option<u32>
     requires { length digits.now ≤ 10 }
     ensures { result ≡ digits_from 0 digits.now }
 {
-    let d = leading_digits(digits, 0, digits.len());
-    if d.end < digits.len() {
+    let d = leading_digits(digits);
+    if d.count < digits.len() {
         return None;
     }
     if MOST_TICKS < d.value {
@@ -150,8 +150,8 @@ fn read_tick_at(bytes: &[u8], from: usize, end: u8) -> Option<(u32, usize)>
     requires { from + 11 ≤ length bytes.now }
     ensures { TickFound bytes.now from end result }
 {
-    let d = leading_digits(bytes, from, from + MOST_DIGITS);
-    let k = d.end;
+    let d = leading_digits(&bytes[from..from + MOST_DIGITS]);
+    let k = from + d.count;
     if bytes[k] != end {
         return None;
     }

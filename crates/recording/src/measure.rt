@@ -1,26 +1,22 @@
 // How long a breath's line is, found without its numbers: reading a recording through needs no more.
 ghost use Rattle.std.specs.Prelude.{◌+◌, ◌≤◌, length};
-ghost use Rattle.recording.specs.Steps.{DigitsEnd, TickEndFound, LineLengthFound};
+ghost use Rattle.recording.specs.Steps.{DigitCount, TickEndFound, LineLengthFound};
 
 use crate::line::LONGEST_LINE;
 
 // So many digits are no number above the largest tick mark.
 const SURE_DIGITS: usize = 9;
 
-// The place behind the digits from a place on, or the limit.
-fn digits_end(bytes: &[u8], from: usize, limit: usize) -> usize
-    requires { (from ≤ limit) × (limit ≤ length bytes.now) }
-    ensures { DigitsEnd bytes.now from limit result }
+// How many digits stand at the start of some bytes.
+fn count_digits(bytes: &[u8]) -> usize
+    ensures { DigitCount bytes.now result }
 {
-    let mut i = from;
-    while i < limit {
-        let b = bytes[i];
-        if b < b'0' || b'9' < b {
+    for (i, b) in bytes.iter().enumerate() {
+        if !b.is_ascii_digit() {
             return i;
         }
-        i += 1;
     }
-    i
+    bytes.len()
 }
 
 // The place behind the tick mark from a place on and the byte `end` that ends it, where it is found. Nine
@@ -29,7 +25,7 @@ fn tick_end(bytes: &[u8], from: usize, end: u8) -> Option<usize>
     requires { from + 11 ≤ length bytes.now }
     ensures { TickEndFound bytes.now from end result }
 {
-    let k = digits_end(bytes, from, from + SURE_DIGITS);
+    let k = from + count_digits(&bytes[from..from + SURE_DIGITS]);
     if bytes[k] != end {
         return None;
     }

@@ -5,5 +5,5 @@ use Rattle.recording.proofs.measure.tick_end.Goals.{then-bytes-from-eq48+else-fr
 
 pub returns : goal.returns
 returns c =
-    tick_ends _ c.requires c.digits_end-k.ensures c.if-bytes-k.false c.if-k-from.false
+    tick_ends _ c.requires c.count_digits.ensures c.if-bytes-k.false c.if-k-from.false
     (elim c.if-bytes-from-eq48.branch [ then-bytes-from-eq48+else-from-k w ↦ inr w.if-from-k.false | else-bytes-from-eq48 w ↦ inl w.if-bytes-from-eq48.false ])
