@@ -8,7 +8,6 @@ use mathlib.Core.Logic.{◌↔◌, ◌⊎◌, ⊎_elim}
 use mathlib.Core.List.{List, [], ◌∷◌, ◌++◌, append_assoc, append-nil}
 use Prim.Native.Nat.{ℕ, ◌+◌, ◌*◌, ◌/◌, ◌%◌, ◌^◌, ◌≤◌, ◌<◌}
 use native.Mathlib.Omega.{arith}
-use native.Mathlib.Decide.{ℕ_discrete}
 use native.Mathlib.Numerals.{add-one}
 use lib.ListN.{length, take, drop, set, length-set, length-append, take-append-drop}
 use lib.Seq.{length-take-le, take-suc-set, drop-set-lt, drop-drop}
@@ -89,14 +88,6 @@ module _ {N D : ℕ} {old list : List ℕ} {u v i : ℕ} (s : Storing N D old li
       in
       let k : length (quotients N D) ≡ i = ap length (sym e) ∙ length-take-le i list s.at in
       (sym k, sym (take-append-drop i list) ∙ rw (e, k, s.rest) refl)
-
-  -- a list that is full has all of them
-  pub store_all : length (quotients N D) ≤ length old → length old ≤ i → (length list ≡ length (quotients N D)) × (list ≡ quotients N D ++ drop (length (quotients N D)) old)
-  store_all room h = go (ℕ_discrete v 0)
-    where
-      go : Dec (v ≡ 0) → (length list ≡ length (quotients N D)) × (list ≡ quotients N D ++ drop (length (quotients N D)) old)
-      go (yes z) = let w = store_end z in (omega (arith, s.long, s.at, w.0, h), w.1)
-      go (no n) = absurd (omega (arith, s.long, h, store_room room (omega arith)))
 
 -- ---- a list that is long enough, or not
 

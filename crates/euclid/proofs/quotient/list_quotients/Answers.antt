@@ -1,15 +1,11 @@
 use Rattle.slash.proofs.AnswerLaws.{plain_stop}
 use Rattle.euclid.proofs.QuotientLaws.{enough, too_short}
-use borrow.Author.Tests.{ltb-false}
 use mathlib.Core.Path.{sym, ◌∙◌}
 use Rattle.euclid.proofs.quotient.list_quotients.Goals as goal
 
 pub returns-then-are_more : goal.returns-then-are_more
 returns-then-are_more c = let short = too_short _ _ (sym c.are_more.ensures ∙ c.if-are_more.true) in
     record { counted = plain_stop _ 7 c.plain.ensures short.0; stored = short.1 }
-
-pub store-requires : goal.store-requires
-store-requires c = ltb-false _ _ (sym c.are_more.ensures ∙ c.if-are_more.false)
 
 pub returns : goal.returns
 returns c =

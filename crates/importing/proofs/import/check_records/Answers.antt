@@ -1,14 +1,8 @@
-use mathlib.Core.Path.{refl, ◌∙◌}
+use mathlib.Core.Path.{◌∙◌}
 use native.Mathlib.Omega.{arith}
 use Rattle.importing.proofs.RecordLaws.{read_good, read_stop}
 use Rattle.importing.proofs.ImportLaws.{records_stop, records_good, records_end}
 use Rattle.importing.proofs.import.check_records.Goals as goal
-
-pub loop-i-init : goal.loop-i-init
-loop-i-init c = rw (c.into_iter-i-iterator.ensures.into_iter_gives, c.enumerate-i-items.ensures.source, c.enumerate-i-items.ensures.count, c.chunks_exact.ensures.rest) (c.chunks_exact.ensures.size, refl)
-
-pub read_record-requires : goal.read_record-requires
-read_record-requires c = let step = c.in-Some.ensures.steps in omega (arith, step.0.1.1, c.loop-i.invariant.0)
 
 pub returns-in-Err : goal.returns-in-Err
 returns-in-Err c =

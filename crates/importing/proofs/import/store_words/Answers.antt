@@ -1,4 +1,3 @@
-use mathlib.Core.Path.{refl}
 use native.Mathlib.Omega.{arith}
 use lib.ListN.{length}
 use Rattle.vectors.proofs.EachLaws.{storing_next, storing_end}
@@ -6,9 +5,6 @@ use Rattle.importing.specs.Imports.{first_records}
 use Rattle.importing.proofs.ImportLaws.{records_long, record_at}
 use Rattle.importing.proofs.import.store_words.Invariants.{word}
 use Rattle.importing.proofs.import.store_words.Goals as goal
-
-pub loop-i-init : goal.loop-i-init
-loop-i-init c = (omega arith, refl, refl)
 
 pub loop-i-preserved : goal.loop-i-preserved
 loop-i-preserved c =

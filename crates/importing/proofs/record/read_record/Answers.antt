@@ -1,3 +1,4 @@
+use native.Mathlib.Omega.{arith}
 use mathlib.Core.Path.{◌∙◌}
 use Rattle.slash.proofs.AnswerLaws.{plain_stop}
 use Rattle.importing.proofs.RecordLaws.{record_is, record_kind, no_kind}
@@ -10,4 +11,4 @@ pub returns-in-2 : goal.returns-in-2
 returns-in-2 c = c.read_ratio.ensures ∙ record_kind _ _ _ c.in-2.is ∙ record_is _ _ _ _ c.number_at-kind.ensures c.number_at-first.ensures c.number_at-second.ensures
 
 pub returns-in_default : goal.returns-in_default
-returns-in_default c = plain_stop _ 17 c.plain.ensures (no_kind _ _ _ c.in_default.in_default-own.rest.0.1 c.in_default.in_default-own.rest.1 ∙ record_is _ _ _ _ c.number_at-kind.ensures c.number_at-first.ensures c.number_at-second.ensures)
+returns-in_default c = plain_stop _ 17 c.plain.ensures (no_kind _ _ _ (λ e. omega (arith, e)) (λ e. omega (arith, e)) ∙ record_is _ _ _ _ c.number_at-kind.ensures c.number_at-first.ensures c.number_at-second.ensures)
