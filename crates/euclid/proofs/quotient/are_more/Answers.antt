@@ -1,16 +1,8 @@
 use native.Mathlib.Omega.{arith}
-use native.Mathlib.Nat.{le_trans}
-use mathlib.Core.Path.{◌≡◌, sym, subst}
+use mathlib.Core.Path.{◌≡◌, subst}
 use Prim.Native.Nat.{◌+◌, ◌-◌}
-use borrow.Author.Tests.{le-ltb}
-use Rattle.euclid.proofs.CountLaws.{Taking, take_start, take_next, take_end, taken}
+use Rattle.euclid.proofs.CountLaws.{Taking, take_next, take_end, taken}
 use Rattle.euclid.proofs.quotient.are_more.Goals as goal
-
-pub returns-then-most-places : goal.returns-then-most-places
-returns-then-most-places c = sym (le-ltb _ _ (le_trans c.requires c.if-most-places.true))
-
-pub loop-init : goal.loop-init
-loop-init c = let e : c.args.places ≡ c.args.places - 0 = omega arith in subst (Taking c.args.n c.args.d c.args.places c.args.n c.args.d) e (take_start _ _ _)
 
 pub returns-then-v-eq0 : goal.returns-then-v-eq0
 returns-then-v-eq0 c = take_end c.loop.invariant c.if-v-eq0.true
