@@ -44,9 +44,6 @@ behind_nil = refl
 pub record Spacing (o qs o' : List ℕ) (i : ℕ) : Type 0 where
   pub total : o ++ behind_spaces qs ≡ o' ++ behind_spaces (drop i qs)
 
-pub spacing_start : (o qs : List ℕ) → Spacing o qs o 0
-spacing_start o qs = record { total = refl }
-
 module _ {o qs o' : List ℕ} {i : ℕ} (s : Spacing o qs o' i) where
   module _ (l : i < length qs) where
     pub spacing_here : (32 ∷ []) ++ decimal (get_or qs i 0) ++ behind_spaces (drop (i + 1) qs) ≡ behind_spaces (drop i qs)

@@ -5,13 +5,10 @@ use mathlib.Core.List.{List, [], ◌∷◌, ◌++◌, append_assoc, append-nil}
 use Prim.Native.Nat.{ℕ, zero, suc, ◌+◌, ◌-◌, ◌/◌, ◌%◌, ◌^◌, ◌≤◌, ◌<◌}
 use native.Mathlib.Omega.{arith}
 use native.Mathlib.Nat.{mod-lt, one-le-pow, pow-suc}
-use lib.ListN.{length, take, drop, length-append}
-use lib.Seq.{take_at}
+use lib.ListN.{length, length-append}
 use borrow.Author.Tests.{lt-ltb, le-ltb}
 use Rattle.io.specs.Digits.{hex_digit_ascii, last_digits as digits, IsDigitCount}
-use Rattle.text.specs.Lines.{refused_line}
 use Rattle.text.specs.Numbers.{decimal, hex_digit, hexadecimal}
-use Rattle.text.specs.Stores.{at_start}
 use Rattle.text.proofs.NumberLaws.{decimal_small, decimal_more}
 use Rattle.inspect.specs.Columns.{last_digits}
 use Rattle.inspect.specs.Steps.{Room, Added}
@@ -60,15 +57,6 @@ digits_decimal (suc (suc j)) n h =
     in
     ap (λ (t : List ℕ). t ++ (hex_digit_ascii (n % 10) ∷ [])) (digits_decimal (suc j) (n / 10) rest)
     ∙ decimal_more n (hex_digit_ascii (n % 10)) more (glyph_digit (n % 10) (mod-lt n (omega arith)))
-
--- ---- the line of a stop
-
--- it stands in front of the array that it was stored in
-pub refused_front : (number line k : ℕ) (o o' : List ℕ) → (k ≡ length (refused_line number line)) × (o' ≡ at_start (refused_line number line) o)
-    → take k o' ≡ refused_line number line
-refused_front number line k o o' h =
-    let t : List ℕ = refused_line number line in
-    ap (take k) h.1 ∙ take_at t (drop (length t) o) k (sym h.0)
 
 -- ---- one digit
 
