@@ -4,24 +4,12 @@
 #![tactic(auto)]
 
 use std::env::FillError;
-use std::io::Write;
 use std::rt::Env;
 
-// Whether the program was started with an argument.
-fn has_argument(rt: &HostRuntime) -> bool {
-    // Only that it is there is asked: one that has no room is there too.
-    match rt.arg(1, &mut [0u8; 1]) {
-        Ok(_) => true,
-        Err(FillError::TooLong) => true,
-        Err(FillError::NotPresent) => false,
-    }
-}
-
 fn main(rt: HostRuntime) {
-    if has_argument(&rt) {
-        let _ = rt
-            .stderr()
-            .write_all(b"usage: night < recording > listing\n");
+    // Only that an argument is there is asked: one that has no room is there too.
+    if !matches!(rt.arg(1, &mut [0; 1]), Err(FillError::NotPresent)) {
+        let _ = eprintln!(rt; "usage: night < recording > listing");
         return;
     }
     let _ = stream::night(&mut rt.stdin(), &mut rt.stdout(), &mut rt.stderr());

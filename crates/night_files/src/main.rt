@@ -4,14 +4,12 @@
 
 #![tactic(auto)]
 
-ghost use Rattle.std.specs.Prelude.{◌≡◌, length};
-
 use slash::Stop;
 use std::env::FillError;
 use std::io::{Read, Write};
 use std::rt::Env;
 use std::{fs, io};
-use stream::Run;
+use stream::Cut;
 
 // A recording that can't be read: no file.
 #[derive(Drop)]
@@ -41,45 +39,30 @@ fn show(rt: &HostRuntime, text: &[u8]) {
     let _ = rt.stdout().write_all(text);
 }
 
-fn line_buffer() -> [u8; 50]
-    ensures { 50 ≡ length result }
-{
-    [0; 50]
-}
-
 fn show_stop(rt: &HostRuntime, stop: Stop) {
-    let mut line = line_buffer();
+    let mut line = [0; 50];
     let n = text::refused_line(stop, &mut line);
     show(rt, &line[..n]);
 }
 
-fn show_end(rt: &HostRuntime, run: Run) {
+fn show_end(rt: &HostRuntime, run: Result<(), Cut>) {
     show(rt, b"# ");
     match run {
-        Run::Listed => {
-            show(rt, b"listed\n");
-        }
-        Run::Refused(stop) => {
-            show_stop(rt, stop);
-        }
-        Run::Unread => {
-            show(rt, b"unread\n");
-        }
-        Run::Unwritten => {
-            show(rt, b"unwritten\n");
-        }
+        Ok(()) => show(rt, b"listed\n"),
+        Err(Cut::Refused(stop)) => show_stop(rt, stop),
+        Err(Cut::Unread) => show(rt, b"unread\n"),
+        Err(Cut::Unwritten) => show(rt, b"unwritten\n"),
     }
 }
 
 // The recording in the file of a name, or of none that can be opened.
-fn list_named<W: Write>(rt: &HostRuntime, name: &[u8], to: &mut W) -> Run {
-    let Ok(path) = str::from_utf8(name) else {
-        return stream::night(&mut Unreadable, to, &mut rt.stdout());
-    };
-    match fs::open(rt, path) {
-        Ok(mut file) => stream::night(&mut file, to, &mut rt.stdout()),
-        Err(_) => stream::night(&mut Unreadable, to, &mut rt.stdout()),
+fn list_named<W: Write>(rt: &HostRuntime, name: &[u8], to: &mut W) -> Result<(), Cut> {
+    if let Ok(path) = str::from_utf8(name) {
+        if let Ok(mut file) = fs::open(rt, path) {
+            return stream::night(&mut file, to, &mut rt.stdout());
+        }
     }
+    stream::night(&mut Unreadable, to, &mut rt.stdout())
 }
 
 // One argument's file.

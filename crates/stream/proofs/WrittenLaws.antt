@@ -4,7 +4,7 @@
 use mathlib.Core.Path.{◌≡◌, refl, sym, ap, ◌∙◌, subst}
 use mathlib.Core.Bool.{Bool, true, false}
 use mathlib.Core.List.{List, [], ◌∷◌, ◌++◌, append_assoc, append-nil}
-use Prim.Native.Nat.{ℕ, zero, suc, ◌+◌, ◌-◌, ◌≤◌, ◌<◌}
+use Prim.Native.Nat.{ℕ, zero, suc, ◌+◌, ◌-◌, ◌≤◌}
 use native.Mathlib.Omega.{arith}
 use lib.ListN.{length, take, drop, length-drop}
 use Rattle.std.proofs.Math.Seq.{take-append_seam, drop-append_seam}
@@ -30,7 +30,7 @@ use Rattle.listing.specs.declared.piece.End.{End}
 use Rattle.listing.specs.declared.piece.End.TheVariants.{Open, Closed, Refused}
 use Rattle.slash.specs.declared.answer.Stop.{Stop}
 use Rattle.stream.specs.Runs.{Adds}
-use Rattle.stream.specs.declared.run.Run.{Run}
+use Rattle.stream.specs.declared.run.Cut.{Cut}
 use mathlib.Core.Logic.{◌⊎◌, inl, inr}
 use Rattle.listing.specs.declared.night.Night.{Night}
 use Rattle.listing.specs.declared.night.Night.TheVariants.{Begun, Rated}
@@ -162,8 +162,8 @@ taken filled k n xs ys h l =
     ∙ take-append-le n ys (post_of filled k xs) l
 
 -- no byte came
-pub no_byte : (n : ℕ) (c : Option (List ℕ)) {room : ℕ} → eqb n 0 ≡ true → 1 ≤ room → (n ≡ 0 → 0 < room → IsAtEnd c) → IsAtEnd c
-no_byte n c e h f = f (eqb-true n 0 e) h
+pub no_byte : (n : ℕ) (c : Option (List ℕ)) {last : Bool} → last ≡ eqb n 0 → (n ≡ 0 → IsAtEnd c) → last ≡ true → IsAtEnd c
+no_byte n c e f t = f (eqb-true n 0 (sym e ∙ t))
 
 -- what holds where the bytes are known
 pub where_known : (r : Option (List ℕ)) (P : List ℕ → Type 0) → ((all : List ℕ) → r ≡ Some all → P all) → IfSome r P
@@ -261,7 +261,7 @@ module _ (all : List ℕ) (old left new : Option (List ℕ)) (night : Night) (by
       read_on (and_nothing p new' wrote') (drop filled (take filled' bytes')) (take filled' bytes') left' last' c e split
 
 -- what `refuse` answered, by its case
-pub adds_refused : (run : Run) (s : Stop) (listing : List ℕ) (old new : Option (List ℕ)) → (run ≡ Run.Refused s) ⊎ (run ≡ Run.Unwritten)
-    → (run ≡ Run.Refused s → Appends old new listing) → Adds run listing old new
-adds_refused run s listing old new (inl e) f = subst (λ (x : Run). Adds x listing old new) (sym e) (f e)
-adds_refused run s listing old new (inr e) f = subst (λ (x : Run). Adds x listing old new) (sym e) tt
+pub adds_refused : (cut : Cut) (s : Stop) (listing : List ℕ) (old new : Option (List ℕ)) → (cut ≡ Cut.Refused s) ⊎ (cut ≡ Cut.Unwritten)
+    → (cut ≡ Cut.Refused s → Appends old new listing) → Adds (Err cut) listing old new
+adds_refused cut s listing old new (inl e) f = subst (λ (x : Cut). Adds (Err x) listing old new) (sym e) (f e)
+adds_refused cut s listing old new (inr e) f = subst (λ (x : Cut). Adds (Err x) listing old new) (sym e) tt

@@ -6,4 +6,4 @@ mod input;
 mod report;
 mod run;
 
-pub use run::{Run, list, night};
+pub use run::{Cut, list, night};

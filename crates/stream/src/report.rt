@@ -1,45 +1,36 @@
 // How a run ended, said in words where errors go.
-ghost use Rattle.std.specs.Prelude.{◌≡◌};
-ghost use Rattle.stream.specs.declared.run.Run.{Run};
+ghost use Rattle.std.specs.Prelude.{◌≡◌, Ok};
 
-use crate::run::Run;
-use slash::Stop;
+use crate::run::Cut;
+use std::fmt;
 use std::io::Write;
 
 // What stops a recording, in the words of include/slash.h.
-fn meaning(number: u64) -> &'static [u8] {
-    if number == 8 {
-        b"more than 65,536 breaths\n"
-    } else if number == 9 {
-        b"over 32 bytes before the line feed, or no line feed\n"
-    } else if number == 10 {
-        b"not three fields\n"
-    } else if number == 11 {
-        b"a field that is no tick mark\n"
-    } else {
-        b"no rate line, or no rate from 1 to 4096\n"
+fn meaning(number: u64) -> &'static str {
+    match number {
+        8 => "more than 65,536 breaths",
+        9 => "over 32 bytes before the line feed, or no line feed",
+        10 => "not three fields",
+        11 => "a field that is no tick mark",
+        _ => "no rate line, or no rate from 1 to 4096",
     }
 }
 
-fn report_stop<E: Write>(errors: &mut E, stop: Stop) {
-    let _ = errors.write_all(b"night: line ");
-    let _ = write!(errors, "{}", stop.place);
-    let _ = errors.write_all(b": ");
-    let _ = errors.write_all(meaning(stop.number));
+impl fmt::Display for Cut {
+    fn fmt<W: fmt::Write>(&self, f: &mut fmt::Formatter<W>) -> fmt::Result {
+        match self {
+            Cut::Refused(stop) => write!(f, "line {}: {}", stop.place, meaning(stop.number)),
+            Cut::Unread => f.write_str("the recording cannot be read"),
+            Cut::Unwritten => f.write_str("the listing cannot be written"),
+        }
+    }
 }
 
 // Nothing is said of a listing that is whole. What can't be said here is lost.
-pub(crate) fn report<E: Write>(run: Run, errors: &mut E)
-    ensures { run ≡ Run.Listed → errors.new ≡ errors.old }
+pub(crate) fn report<E: Write>(run: Result<(), Cut>, errors: &mut E)
+    ensures { run ≡ Ok tt → errors.new ≡ errors.old }
 {
-    match run {
-        Run::Listed => {}
-        Run::Refused(stop) => report_stop(errors, stop),
-        Run::Unread => {
-            let _ = errors.write_all(b"night: the recording cannot be read\n");
-        }
-        Run::Unwritten => {
-            let _ = errors.write_all(b"night: the listing cannot be written\n");
-        }
+    if let Err(cut) = run {
+        let _ = writeln!(errors, "night: {cut}");
     }
 }

@@ -4,14 +4,13 @@ use Rattle.stream.proofs.InputLaws.{turn_listed, turn_read, listed_on, waits_on}
 use Rattle.stream.proofs.RunLaws.{refused_tells}
 use native.Mathlib.Omega.{arith}
 use lib.Seq.{length-take-le}
-use mathlib.Core.Path.{sym, ◌∙◌}
+use mathlib.Core.Path.{refl, sym, ◌∙◌}
 use borrow.Author.Rules.{rules}
-use Rattle.stream.proofs.WrittenLaws.{begun, turn_moved, turn_waits, turn_closed, turn_refused, turn_part, adds_refused, where_known}
-use borrow.Author.Tests.{not-false}
+use Rattle.stream.proofs.WrittenLaws.{begun, turn_moved, turn_waits, turn_closed, turn_refused, turn_part, adds_refused, where_known, no_byte}
 use Rattle.stream.proofs.run.list.Goals as goal
 
 pub loop-bytes-init : goal.loop-bytes-init
-loop-bytes-init g c = (c.input_buffer-bytes.ensures, c.output_buffer-text.ensures, omega (arith, c.input_buffer-bytes.ensures), begun_night, λ all e. begun all _ _ e)
+loop-bytes-init g c = (search rules, search rules, omega arith, begun_night, λ all e. begun all _ _ e)
 
 pub slice_bounds-bytes-end : goal.slice_bounds-bytes-end
 slice_bounds-bytes-end g c = c.loop-bytes.invariant.2
@@ -34,89 +33,77 @@ returns-in-Refused-clause-told g c =
 pub move_to_front-filled-requires : goal.move_to_front-filled-requires
 move_to_front-filled-requires g c = (omega (arith, (piece_answer _ _ _ c.loop-bytes.text _ _ c.loop-bytes.invariant.3 (c.list_piece-piece.ensures.answered, c.list_piece-piece.ensures.stored)).0, length-take-le c.loop-bytes.filled c.loop-bytes.bytes c.loop-bytes.invariant.2), c.loop-bytes.invariant.2)
 
-pub loop-bytes-smaller-then-used-gt0 : goal.loop-bytes-smaller-then-used-gt0
-loop-bytes-smaller-then-used-gt0 g c =
+pub loop-bytes-smaller-then-piece-gt0 : goal.loop-bytes-smaller-then-piece-gt0
+loop-bytes-smaller-then-piece-gt0 g c =
     let answer = piece_answer _ _ _ c.loop-bytes.text _ _ c.loop-bytes.invariant.3 (c.list_piece-piece.ensures.answered, c.list_piece-piece.ensures.stored) in
     let goes = piece_goes_on _ _ _ c.loop-bytes.text _ _ c.loop-bytes.invariant.3 (c.list_piece-piece.ensures.answered, c.list_piece-piece.ensures.stored) (omega (arith, c.loop-bytes.invariant.1)) c.in-Open.is in
-    turn_listed _ _ _ _ _ (listed_on _ _ _ _ _ goes (omega (arith, c.if-used-gt0.true))) (night_lines _ answer.2).1
+    turn_listed _ _ _ _ _ (listed_on _ _ _ _ _ goes (omega (arith, c.if-piece-gt0.true))) (night_lines _ answer.2).1
 
-pub loop-bytes-preserved-then-used-gt0 : goal.loop-bytes-preserved-then-used-gt0
-loop-bytes-preserved-then-used-gt0 g c =
+pub loop-bytes-preserved-then-piece-gt0 : goal.loop-bytes-preserved-then-piece-gt0
+loop-bytes-preserved-then-piece-gt0 g c =
     let answer = piece_answer _ _ _ c.loop-bytes.text _ _ c.loop-bytes.invariant.3 (c.list_piece-piece.ensures.answered, c.list_piece-piece.ensures.stored) in (
       search rules,
       search rules,
       omega (arith, c.move_to_front-filled.ensures.counted, c.loop-bytes.invariant.2),
       answer.2,
       λ all e. turn_moved
-          all (g.W.Write.contents c.args.to.now) (g.R.Read.remaining c.loop-bytes.from) (g.W.Write.contents c.loop-bytes.to)
-          c.loop-bytes.night c.loop-bytes.bytes c.loop-bytes.text c.loop-bytes.filled c.loop-bytes.last
-          (c.loop-bytes.invariant.4 all e) c.loop-bytes.invariant.3 c.list_piece-piece.result c.list_piece-piece.new.out
+          _ _ _ _ _ _ c.loop-bytes.text _ _ (c.loop-bytes.invariant.4 all e) c.loop-bytes.invariant.3 _ _
           c.list_piece-piece.ensures.answered c.list_piece-piece.ensures.stored c.list_piece-piece.ensures.listing
-          (g.W.Write.contents c.write_all.new.self) c.write_all.result (sym c.is_err.ensures.value ∙ c.if-is_err.false) c.write_all.ensures.bytes
+          _ c.write_all.result (sym c.is_err.ensures.value ∙ c.if-is_err.false) c.write_all.ensures.bytes
           c.in-Open.is (omega (arith, answer.0, length-take-le c.loop-bytes.filled c.loop-bytes.bytes c.loop-bytes.invariant.2)) c.loop-bytes.invariant.2
           _ _ c.move_to_front-filled.ensures.counted c.move_to_front-filled.ensures.moved,
     )
 
-pub read_more-input-requires : goal.read_more-input-requires
-read_more-input-requires g c =
+pub read_more-requires : goal.read_more-requires
+read_more-requires g c =
     let goes = piece_goes_on _ _ _ c.loop-bytes.text _ _ c.loop-bytes.invariant.3 (c.list_piece-piece.ensures.answered, c.list_piece-piece.ensures.stored) (omega (arith, c.loop-bytes.invariant.1)) c.in-Open.is in
-    let waits = waits_on _ _ _ _ _ goes (omega (arith, c.if-used-gt0.false)) in
+    let waits = waits_on _ _ _ _ _ goes (omega (arith, c.if-piece-gt0.false)) in
     let long = length-take-le c.loop-bytes.filled c.loop-bytes.bytes c.loop-bytes.invariant.2 in
     (omega (arith, waits.1, long, c.loop-bytes.invariant.0), waits.2 ∙ long)
 
 pub loop-bytes-smaller : goal.loop-bytes-smaller
 loop-bytes-smaller g c =
     let goes = piece_goes_on _ _ _ c.loop-bytes.text _ _ c.loop-bytes.invariant.3 (c.list_piece-piece.ensures.answered, c.list_piece-piece.ensures.stored) (omega (arith, c.loop-bytes.invariant.1)) c.in-Open.is in
-    let waits = waits_on _ _ _ _ _ goes (omega (arith, c.if-used-gt0.false)) in
-    turn_read _ _ _ _ _ waits.0 (omega (arith, waits.1, length-take-le c.loop-bytes.filled c.loop-bytes.bytes c.loop-bytes.invariant.2)) c.read_more-input.ensures.grown
+    let waits = waits_on _ _ _ _ _ goes (omega (arith, c.if-piece-gt0.false)) in
+    turn_read _ _ _ _ _ waits.0 (omega (arith, waits.1, length-take-le c.loop-bytes.filled c.loop-bytes.bytes c.loop-bytes.invariant.2)) refl
 
 pub loop-bytes-preserved : goal.loop-bytes-preserved
 loop-bytes-preserved g c = (
   search rules,
   search rules,
-  c.read_more-input.ensures.counted.0,
+  c.in-Ok.ensures.counted.0,
   c.loop-bytes.invariant.3,
   λ all e. turn_waits
-      all (g.W.Write.contents c.args.to.now) (g.R.Read.remaining c.loop-bytes.from) (g.W.Write.contents c.loop-bytes.to)
-      c.loop-bytes.night c.loop-bytes.bytes c.loop-bytes.text c.loop-bytes.filled c.loop-bytes.last
-      (c.loop-bytes.invariant.4 all e) c.loop-bytes.invariant.3 c.list_piece-piece.result c.list_piece-piece.new.out
+      _ _ _ _ _ _ c.loop-bytes.text _ _ (c.loop-bytes.invariant.4 all e) c.loop-bytes.invariant.3 _ _
       c.list_piece-piece.ensures.answered c.list_piece-piece.ensures.stored c.list_piece-piece.ensures.listing
-      (g.W.Write.contents c.write_all.new.self) c.write_all.result (sym c.is_err.ensures.value ∙ c.if-is_err.false) c.write_all.ensures.bytes
-      c.list_piece-piece.ensures.best c.in-Open.is (omega (arith, c.if-used-gt0.false)) c.loop-bytes.invariant.2
-      _ _ _ _ (c.read_more-input.ensures.consumed (not-false _ c.if-not-input.false)) (c.read_more-input.ensures.ended (not-false _ c.if-not-input.false))
-      c.read_more-input.ensures.grown.1 c.read_more-input.ensures.counted.0 c.read_more-input.ensures.kept,
+      _ c.write_all.result (sym c.is_err.ensures.value ∙ c.if-is_err.false) c.write_all.ensures.bytes
+      c.list_piece-piece.ensures.best c.in-Open.is (omega (arith, c.if-piece-gt0.false)) c.loop-bytes.invariant.2
+      _ _ _ _ c.in-Ok.ensures.consumed (no_byte _ _ refl c.in-Ok.ensures.ended)
+      (omega arith) c.in-Ok.ensures.counted.0 c.in-Ok.ensures.kept,
 )
 
 pub returns-in-Closed-clause-written : goal.returns-in-Closed-clause-written
 returns-in-Closed-clause-written g c = where_known _ _ (λ all e. turn_closed
-    all (g.W.Write.contents c.args.to.now) (g.R.Read.remaining c.loop-bytes.from) (g.W.Write.contents c.loop-bytes.to)
-    c.loop-bytes.night c.loop-bytes.bytes c.loop-bytes.text c.loop-bytes.filled c.loop-bytes.last
-    (c.loop-bytes.invariant.4 all e) c.loop-bytes.invariant.3 c.list_piece-piece.result c.list_piece-piece.new.out
+    _ _ _ _ _ _ c.loop-bytes.text _ _ (c.loop-bytes.invariant.4 all e) c.loop-bytes.invariant.3 _ _
     c.list_piece-piece.ensures.answered c.list_piece-piece.ensures.stored c.list_piece-piece.ensures.listing
-    (g.W.Write.contents c.write_all.new.self) c.write_all.result (sym c.is_err.ensures.value ∙ c.if-is_err.false) c.write_all.ensures.bytes
+    _ c.write_all.result (sym c.is_err.ensures.value ∙ c.if-is_err.false) c.write_all.ensures.bytes
     c.in-Closed.is)
 
 pub returns-in-NoNight-clause-written : goal.returns-in-NoNight-clause-written
 returns-in-NoNight-clause-written g c = where_known _ _ (λ all e. turn_part
-    all (g.W.Write.contents c.args.to.now) (g.R.Read.remaining c.loop-bytes.from) (g.W.Write.contents c.loop-bytes.to)
-    c.loop-bytes.night c.loop-bytes.bytes c.loop-bytes.text c.loop-bytes.filled c.loop-bytes.last
-    (c.loop-bytes.invariant.4 all e) c.loop-bytes.invariant.3 c.list_piece-piece.result c.list_piece-piece.new.out
+    _ _ _ _ _ _ c.loop-bytes.text _ _ (c.loop-bytes.invariant.4 all e) c.loop-bytes.invariant.3 _ _
     c.list_piece-piece.ensures.answered c.list_piece-piece.ensures.stored c.list_piece-piece.ensures.listing
-    (g.W.Write.contents c.write_all.new.self) c.write_all.result (sym c.is_err.ensures.value ∙ c.if-is_err.false) c.write_all.ensures.bytes)
+    _ c.write_all.result (sym c.is_err.ensures.value ∙ c.if-is_err.false) c.write_all.ensures.bytes)
 
 pub returns-in-Refused-clause-written : goal.returns-in-Refused-clause-written
 returns-in-Refused-clause-written g c = where_known _ _ (λ all e. adds_refused _ _ _ _ _ c.refuse.ensures.ends (λ said. turn_refused
-    all (g.W.Write.contents c.args.to.now) (g.R.Read.remaining c.loop-bytes.from) (g.W.Write.contents c.loop-bytes.to)
-    c.loop-bytes.night c.loop-bytes.bytes c.loop-bytes.text c.loop-bytes.filled c.loop-bytes.last
-    (c.loop-bytes.invariant.4 all e) c.loop-bytes.invariant.3 c.list_piece-piece.result c.list_piece-piece.new.out
+    _ _ _ _ _ _ c.loop-bytes.text _ _ (c.loop-bytes.invariant.4 all e) c.loop-bytes.invariant.3 _ _
     c.list_piece-piece.ensures.answered c.list_piece-piece.ensures.stored c.list_piece-piece.ensures.listing
-    (g.W.Write.contents c.write_all.new.self) c.write_all.result (sym c.is_err.ensures.value ∙ c.if-is_err.false) c.write_all.ensures.bytes
+    _ c.write_all.result (sym c.is_err.ensures.value ∙ c.if-is_err.false) c.write_all.ensures.bytes
     _ c.in-Refused.is _ (c.refuse.ensures.written said)))
 
-pub returns-then-not-input-clause-written : goal.returns-then-not-input-clause-written
-returns-then-not-input-clause-written g c = where_known _ _ (λ all e. turn_part
-    all (g.W.Write.contents c.args.to.now) (g.R.Read.remaining c.loop-bytes.from) (g.W.Write.contents c.loop-bytes.to)
-    c.loop-bytes.night c.loop-bytes.bytes c.loop-bytes.text c.loop-bytes.filled c.loop-bytes.last
-    (c.loop-bytes.invariant.4 all e) c.loop-bytes.invariant.3 c.list_piece-piece.result c.list_piece-piece.new.out
+pub returns-in_default-clause-written : goal.returns-in_default-clause-written
+returns-in_default-clause-written g c = where_known _ _ (λ all e. turn_part
+    _ _ _ _ _ _ c.loop-bytes.text _ _ (c.loop-bytes.invariant.4 all e) c.loop-bytes.invariant.3 _ _
     c.list_piece-piece.ensures.answered c.list_piece-piece.ensures.stored c.list_piece-piece.ensures.listing
-    (g.W.Write.contents c.write_all.new.self) c.write_all.result (sym c.is_err.ensures.value ∙ c.if-is_err.false) c.write_all.ensures.bytes)
+    _ c.write_all.result (sym c.is_err.ensures.value ∙ c.if-is_err.false) c.write_all.ensures.bytes)
