@@ -244,6 +244,9 @@ module _ (f : Format) where
   pub floating_is : done tt ≡ check_floating f → (known f ≡ true) × (is_fixed f ≡ false)
   floating_is e = ((floating_known e).0, ne_eqb _ _ (floating_known e).1)
 
+  pub floating_k : done tt ≡ check_floating f → (2 ≤ f.k) × (f.k ≤ 32)
+  floating_k e = known_k f (floating_known e).0
+
   pub floating_width : (f.kind ≡ 1 → ⊥) → width_of f ≡ f.k + slash_bits f.k + 1
   unfolding width_of
   floating_width n = rw (ne_eqb _ _ n) refl

@@ -64,6 +64,7 @@ fn rearrange_each(way: Way, f: Format, operand: &[u64], out: &mut [u64]) -> Resu
 }
 
 // `twist` at each place of operand.
+#[tactic(auto, unfolding(crate::specs::Each::twist_each, crate::specs::Steps::way_of))]
 pub fn twist_each(f: Format, operand: &[u64], out: &mut [u64]) -> Result<(), Stop>
     ensures answered { result ≡ stop_only (twist_each f operand.now out.old) }
     ensures stored { out.new ≡ vector_after (twist_each f operand.now out.old) out.old }
@@ -72,6 +73,7 @@ pub fn twist_each(f: Format, operand: &[u64], out: &mut [u64]) -> Result<(), Sto
 }
 
 // `untwist` at each place of operand.
+#[tactic(auto, unfolding(crate::specs::Each::untwist_each, crate::specs::Steps::way_of))]
 pub fn untwist_each(f: Format, operand: &[u64], out: &mut [u64]) -> Result<(), Stop>
     ensures answered { result ≡ stop_only (untwist_each f operand.now out.old) }
     ensures stored { out.new ≡ vector_after (untwist_each f operand.now out.old) out.old }

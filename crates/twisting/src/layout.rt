@@ -6,8 +6,6 @@ ghost use Rattle.slash.specs.Formats.{slash_bits};
 ghost use Rattle.twisting.specs.Twisting.{turned, twisted_field, untwisted_field, with_field, rearranged};
 ghost use Rattle.twisting.specs.Steps.{way_of, parting_at, raised_next};
 
-use crate::turning::turned_bits;
-
 // The two ways between the layouts.
 #[derive(Clone, Copy)]
 pub(crate) enum Way {
@@ -45,7 +43,7 @@ impl Layout {
         requires { x < 2 ^ (self.k - 1) }
         ensures { result ≡ turned (self.k - 1) x }
     {
-        (turned_bits(x as u32) >> (33 - self.k)) as u64
+        ((x as u32).reverse_bits() >> (33 - self.k)) as u64
     }
 
     // The denominator's bits are the lowest e of the field f; of the turned field they are the leftmost
@@ -94,6 +92,7 @@ impl Layout {
     // Where a way takes a field apart: at the word's slash position, but at 0 where that is the last, so
     // that the field of an infinity or a not-a-number stays. A choice is faster than a branch by the
     // word. above is a word without its field.
+    #[tactic(auto, unfolding(crate::specs::Steps::parting_at))]
     pub(crate) fn parting(self, above: u64) -> u64
         ensures { result ≡ parting_at self.positions (bit_and above self.positions) }
     {

@@ -5,7 +5,6 @@
 
 mod each;
 mod layout;
-mod turning;
 mod twisting;
 
 pub use each::{twist_each, untwist_each};

@@ -35,6 +35,7 @@ fn rearrange_word(way: Way, f: Format, w: u64) -> Result<u64, Stop>
 }
 
 // A plain word of a floating format as the twisted one.
+#[tactic(auto, unfolding(crate::specs::Twisting::twist_word, crate::specs::Steps::way_of))]
 pub fn twist(f: Format, w: u64) -> Result<u64, Stop>
     ensures { result ≡ twist_word f w }
 {
@@ -42,6 +43,7 @@ pub fn twist(f: Format, w: u64) -> Result<u64, Stop>
 }
 
 // A twisted word as the plain one.
+#[tactic(auto, unfolding(crate::specs::Twisting::untwist_word, crate::specs::Steps::way_of))]
 pub fn untwist(f: Format, w: u64) -> Result<u64, Stop>
     ensures { result ≡ untwist_word f w }
 {

@@ -1,6 +1,5 @@
 use Rattle.slash.proofs.AnswerLaws.{plain_stop, passed_on}
-use Rattle.slash.proofs.FormatLaws.{known_k}
-use Rattle.twisting.proofs.TwistingLaws.{floating_is}
+use Rattle.twisting.proofs.TwistingLaws.{floating_k, floating_is}
 use Rattle.twisting.proofs.EachLaws.{each_format, each_length, stopped_before, rearranged_stopped, rearranged_done}
 use Rattle.twisting.specs.Twisting.{rearranged}
 use Rattle.twisting.specs.Steps.{way_of}
@@ -20,7 +19,7 @@ returns-then-operand-out c =
     record { answered = both.0; stored = both.1 }
 
 pub new-l-requires : goal.new-l-requires
-new-l-requires c = let k = known_k _ (floating_is _ (sym c.in_ok-check_floating.was ∙ c.check_floating.ensures)).0 in (k.0, k.1)
+new-l-requires c = let k = floating_k _ (sym c.in_ok-check_floating.was ∙ c.check_floating.ensures) in (k.0, k.1)
 
 pub check_all-requires : goal.check_all-requires
 check_all-requires c = let is = floating_is _ (sym c.in_ok-check_floating.was ∙ c.check_floating.ensures) in (is.0, is.1, c.new-l.ensures)

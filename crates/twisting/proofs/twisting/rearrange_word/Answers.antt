@@ -1,6 +1,5 @@
 use Rattle.slash.proofs.AnswerLaws.{plain_stop, passed_on}
-use Rattle.slash.proofs.FormatLaws.{known_k}
-use Rattle.twisting.proofs.TwistingLaws.{floating_is, rearrange_format}
+use Rattle.twisting.proofs.TwistingLaws.{floating_k, floating_is, rearrange_format}
 use Rattle.twisting.proofs.StepLaws.{few, wide_refused, position_refused, position_done}
 use native.Mathlib.Omega.{arith}
 use Rattle.slash.specs.Bits.{bits}
@@ -15,13 +14,13 @@ pub returns-in_err-check_floating : goal.returns-in_err-check_floating
 returns-in_err-check_floating c = passed_on _ c.from_residual.ensures ∙ rearrange_format _ _ _ (sym c.in_err-check_floating.was ∙ c.check_floating.ensures)
 
 pub new-l-requires : goal.new-l-requires
-new-l-requires c = let k = known_k _ (floating_is _ (sym c.in_ok-check_floating.was ∙ c.check_floating.ensures)).0 in (k.0, k.1)
+new-l-requires c = let k = floating_k _ (sym c.in_ok-check_floating.was ∙ c.check_floating.ensures) in (k.0, k.1)
 
 pub overflow_sub-above : goal.overflow_sub-above
-overflow_sub-above c = let k = known_k _ (floating_is _ (sym c.in_ok-check_floating.was ∙ c.check_floating.ensures)).0 in omega (arith, k.0)
+overflow_sub-above c = let k = floating_k _ (sym c.in_ok-check_floating.was ∙ c.check_floating.ensures) in omega (arith, k.0)
 
 pub overflow_shr-above : goal.overflow_shr-above
-overflow_shr-above c = let k = known_k _ (floating_is _ (sym c.in_ok-check_floating.was ∙ c.check_floating.ensures)).0 in omega (arith, k.1)
+overflow_shr-above c = let k = floating_k _ (sym c.in_ok-check_floating.was ∙ c.check_floating.ensures) in omega (arith, k.1)
 
 pub overflow_mul-l : goal.overflow_mul-l
 overflow_mul-l c = let fits = few _ _ c.new-l.result.most c.new-l.result.position_set in omega (arith, fits)
@@ -36,7 +35,7 @@ returns-then-l-above c =
     plain_stop _ 4 c.plain.ensures (wide_refused _ (floating_is _ good) _ _ set _ good c.if-l-above.true)
 
 pub overflow_sub-f : goal.overflow_sub-f
-overflow_sub-f c = (known_k _ (floating_is _ (sym c.in_ok-check_floating.was ∙ c.check_floating.ensures)).0).0
+overflow_sub-f c = (floating_k _ (sym c.in_ok-check_floating.was ∙ c.check_floating.ensures)).0
 
 pub returns-then-f-e : goal.returns-then-f-e
 returns-then-f-e c =

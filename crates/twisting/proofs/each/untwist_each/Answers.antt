@@ -1,8 +1,0 @@
-use Rattle.twisting.specs.Each.{untwist_each}
-use Rattle.twisting.specs.Steps.{way_of}
-use Rattle.twisting.proofs.each.untwist_each.Goals as goal
-
-pub returns : goal.returns
-unfolding untwist_each way_of
-returns c =
-    record { answered = c.rearrange_each.ensures.answered; stored = c.rearrange_each.ensures.stored }
