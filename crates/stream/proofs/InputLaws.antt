@@ -1,6 +1,6 @@
 -- Bytes read behind those that a buffer has, and moved to its front. Assumes nothing.
 -- `turn_listed`, `turn_read`: a turn that takes a line, or reads on, leaves fewer turns. `moving_end`: the bytes not used stand at the front.
-use mathlib.Core.Path.{◌≡◌, sym, ap, ◌∙◌}
+use mathlib.Core.Path.{◌≡◌, refl, sym, ap, ◌∙◌}
 use mathlib.Core.Bool.{Bool, true, false}
 use mathlib.Core.Logic.{⊎_elim}
 use mathlib.Core.List.{List, ◌++◌}
@@ -27,6 +27,9 @@ pub of_read : {E : Type 0} (r : Result ℕ E) (P Q R : ℕ → Type 0) (S : E �
 of_read (Ok n) P Q R S p q f = f n p q
 of_read (Err e) P Q R S p q f = p
 
+pub grown : (filled n : ℕ) → (eqb n 0 ≡ false → filled < filled + n) × (filled ≤ filled + n)
+grown filled n = (λ e. let some : n ≡ 0 → ⊥ = eqb-false _ _ e in omega arith, omega arith)
+
 -- one more than the turns that are left: a turn takes a line, or reads bytes of one, or finds the end
 pub turns_left : (line filled : ℕ) (last : Bool) → ℕ
 turns_left line filled true = (65539 - line) * 40 + (34 - filled)
@@ -39,10 +42,11 @@ turn_listed line line' filled filled' true h few = omega arith
 turn_listed line line' filled filled' false h few = omega arith
 
 -- a turn that read on
-pub turn_read : (line filled n : ℕ) (last last' : Bool) → last ≡ false → filled < 33 → last' ≡ eqb n 0 → turns_left line (filled + n) last' < turns_left line filled last
+pub turn_read : (line filled filled' : ℕ) (last last' : Bool) → last ≡ false → filled < 33 → (last' ≡ false → filled < filled') × (filled ≤ filled')
+    → turns_left line filled' last' < turns_left line filled last
 unfolding turns_left
-turn_read line filled n last true e h g = rw e (omega arith)
-turn_read line filled n last false e h g = let some : n ≡ 0 → ⊥ = eqb-false _ _ (sym g) in rw e (omega arith)
+turn_read line filled filled' last true e h g = rw e (omega (arith, g.1))
+turn_read line filled filled' last false e h g = rw e (omega (arith, g.0 refl))
 
 -- which of the two it is, by the bytes that the piece used
 module _ (line : ℕ) (bs : List ℕ) (last : Bool) (used line' : ℕ) (g : GoesOn line bs last used line') where

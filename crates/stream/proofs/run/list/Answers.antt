@@ -1,6 +1,6 @@
 use Rattle.listing.proofs.NightLaws.{begun_night, night_lines}
 use Rattle.listing.proofs.StepLaws.{piece_answer, piece_stops, piece_goes_on}
-use Rattle.stream.proofs.InputLaws.{turn_listed, turn_read, listed_on, waits_on}
+use Rattle.stream.proofs.InputLaws.{grown, turn_listed, turn_read, listed_on, waits_on}
 use Rattle.stream.proofs.RunLaws.{refused_tells}
 use native.Mathlib.Omega.{arith}
 use lib.Seq.{length-take-le}
@@ -65,7 +65,7 @@ pub loop-bytes-smaller : goal.loop-bytes-smaller
 loop-bytes-smaller g c =
     let goes = piece_goes_on _ _ _ c.loop-bytes.text _ _ c.loop-bytes.invariant.3 (c.list_piece-piece.ensures.answered, c.list_piece-piece.ensures.stored) (omega (arith, c.loop-bytes.invariant.1)) c.in-Open.is in
     let waits = waits_on _ _ _ _ _ goes (omega (arith, c.if-piece-gt0.false)) in
-    turn_read _ _ _ _ _ waits.0 (omega (arith, waits.1, length-take-le c.loop-bytes.filled c.loop-bytes.bytes c.loop-bytes.invariant.2)) refl
+    turn_read _ _ _ _ _ waits.0 (omega (arith, waits.1, length-take-le c.loop-bytes.filled c.loop-bytes.bytes c.loop-bytes.invariant.2)) (grown _ _)
 
 pub loop-bytes-preserved : goal.loop-bytes-preserved
 loop-bytes-preserved g c = (
