@@ -32,6 +32,7 @@ ALLOWED = {
     "Ok": "a value of the language",
     "Ok(())": "a value of the language",
     "Err": "a value of the language",
+    "reverse_bits": "a function of the library",
     "declared": "a word of paths of the language",
     "steps": "an argument of definitions",
 }

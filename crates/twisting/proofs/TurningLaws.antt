@@ -29,7 +29,7 @@ turned_zero zero = refl
 turned_zero (suc n) = omega (arith, turned_zero n)
 
 -- only the lowest bits are turned
-turned_low : (n q r : ℕ) → turned n (q * 2 ^ n + r) ≡ turned n r
+pub turned_low : (n q r : ℕ) → turned n (q * 2 ^ n + r) ≡ turned n r
 unfolding turned
 turned_low zero q r = refl
 turned_low (suc n) q r = ap₂ (λ (x y : ℕ). x * 2 ^ n + y) (block_odd q n r) (ap (turned n) (block_half q n r) ∙ turned_low n q (r / 2))

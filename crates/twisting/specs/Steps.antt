@@ -1,11 +1,11 @@
--- For the code and the proofs alone: the way that the code goes, its test of a vector's words, and a term of the laws.
-use Rattle.std.specs.Prelude.{ℕ, ◌+◌, ◌-◌, ◌*◌, ◌/◌, ◌%◌, ◌^◌, ◌≤◌, ◌<◌, false, List, ◌≡◌, eqb, length, get_or}
+-- For the code and the proofs alone: the way that the code goes, its test of a vector's words, and terms of the laws.
+use Rattle.std.specs.Prelude.{ℕ, zero, suc, ◌+◌, ◌-◌, ◌*◌, ◌/◌, ◌%◌, ◌^◌, ◌≤◌, ◌<◌, false, List, ◌≡◌, eqb, length, get_or}
 use Rattle.std.specs.Prelude.{if◌then◌else◌}
 use Rattle.slash.specs.Formats.{slash_bits}
 use Rattle.slash.specs.Reading.{slash_undefined}
 use Rattle.slash.specs.declared.number.Value.{Value}
 use Rattle.slash.specs.declared.number.Value.TheVariants.{Fraction, Zero, Infinity, NotANumber}
-use Rattle.twisting.specs.Twisting.{twisted_field, untwisted_field}
+use Rattle.twisting.specs.Twisting.{turned, twisted_field, untwisted_field}
 use Rattle.twisting.specs.declared.layout.Way.{Way}
 
 -- ---- the way
@@ -38,6 +38,16 @@ abbrev pub Joined : (k : ℕ) → List ℕ → (above next i : ℕ) → Type 0
 Joined k words above next i = (i ≤ length words) × ((j : ℕ) → j < i → (get_or words j 0 / 2 ^ (k - 1) ≤ above) × (raised_next k (get_or words j 0 / 2 ^ (k - 1)) ≤ next))
 
 -- ---- the laws
+
+-- The two runs, of n bits, of each of `pairs` pairs change places.
+unfoldable pub swapped : (n pairs x : ℕ) → ℕ
+swapped n zero x = 0
+swapped n (suc pairs) x = swapped n pairs (x / 2 ^ (n + n)) * 2 ^ (n + n) + (x % 2 ^ n * 2 ^ n + x / 2 ^ n % 2 ^ n)
+
+-- Each of `count` runs of n bits turned where it is.
+unfoldable pub runs_turned : (n count x : ℕ) → ℕ
+runs_turned n zero x = 0
+runs_turned n (suc count) x = runs_turned n count (x / 2 ^ n) * 2 ^ n + turned n x
 
 -- Infinity, or not-a-number.
 unfoldable pub Special : Value → Type 0
