@@ -70,3 +70,6 @@ stored_at f code x o e w h = h ∙ go o ∙ ap or_zero e
     go : (p : Outcome ℕ) → result_unwrap_or p 0 ≡ or_zero p
     go (Ok v) = refl
     go (Err s) = refl
+
+pub stored_by : (f : Format) (n code : ℕ) (xs : List Operands) → n ≡ code → map (binary_in f n) xs ≡ map (binary_in f code) xs
+stored_by f n code xs e = ap (λ (m : ℕ). map (binary_in f m) xs) e

@@ -5,15 +5,15 @@
 -- `sum_exact`: as a signed number the sum's sign and size are the exact sum. `over_exact`: the exact result is never over 0, so that stop 6 can't
 -- come. `stop_format` to `stop_right`: the stops, in their order; the others are one for each way through the code.
 use mathlib.Core.Path.{◌≡◌, refl, sym, ap, ◌∙◌, subst, subst⁻¹}
-use mathlib.Core.Bool.{Bool, true, false, not, ◌||◌}
+use mathlib.Core.Bool.{Bool, true, false, not, ◌||◌, ◌&&◌, and-false}
 use Prim.Native.Nat.{ℕ, ◌+◌, ◌-◌, ◌*◌, ◌≤◌, ◌<◌}
 use native.Mathlib.Omega.{arith}
 use native.Mathlib.Nat.{one-le-mul}
 use native.Mathlib.Decide.{ℕ_discrete, dec_le}
-use lib.Dec.{eqb}
+use lib.Dec.{leb, eqb}
 use lib.IntN.{ℤ, pos, neg_ℤ, ◌+ℤ◌, ◌-ℤ◌, +ℤ_comm, +ℤ-neg_ℤ_cancel, neg_ℤ-neg_ℤ, neg_ℤ-+ℤ}
 use borrow.Author.Tests.{le-leb, lt-leb, eq-eqb, ne_eqb}
-use Rattle.std.specs.Prelude.{Ok, Err, IsOk}
+use Rattle.std.specs.Prelude.{Ok, Err, IsOk, is_ok}
 use Rattle.std.specs.Prelude.{if◌then◌else◌}
 use Rattle.convergents.specs.Rounding.{round}
 use Rattle.slash.specs.Answers.{Outcome, stop, done, ◌then◌, WhenDone}
@@ -36,11 +36,13 @@ use Rattle.slash.specs.declared.number.Value.{Value}
 use Rattle.slash.specs.declared.number.Value.TheVariants.{Fraction, Infinity, NotANumber}
 use Rattle.slash.specs.declared.number.Number.{Number}
 use Rattle.arithmetic.specs.Operands.{operand_of, sign_of, differ, turned}
-use Rattle.arithmetic.specs.Steps.{Small, value_from}
+use Rattle.arithmetic.specs.Steps.{Small, value_from, code_of, operation_of}
 use Rattle.arithmetic.specs.Operations.{sum_size, sum_sign, sum_parts, sum_of, times_infinity, product_parts, product_of, divided_by, quotient_of, exact_of, exact_value, is_binary, combined, check_binary, binary_word}
 use Rattle.vectors.specs.Each.{stop_only}
 use Rattle.vectors.proofs.EachLaws.{stop_checked}
 use Rattle.arithmetic.specs.Sizes.{binary_size}
+use Rattle.arithmetic.specs.declared.operation.Operation.{Operation}
+use Rattle.arithmetic.specs.declared.operation.Operation.TheVariants.{Add, Subtract, Multiply, Divide}
 use Rattle.arithmetic.specs.declared.operand.Operand.{Operand}
 use Rattle.arithmetic.specs.declared.operand.Operand.TheVariants.{Finite, Infinite}
 use Rattle.arithmetic.proofs.OperandLaws.{small_turned, checked_small, checked_operand, back, same_operand}
@@ -192,6 +194,48 @@ module _ (code : ℕ) (x y : Operand) where
     pub exact_quotient : (code ≡ 3 → ⊥) → quotient_of (differ s t) x y ≡ exact_of code x y
     unfolding exact_of
     exact_quotient l = rw (ne_eqb _ _ n, ne_eqb _ _ m, ne_eqb _ _ l, se, te) refl
+
+pub code_good : (o : Operation) → is_binary (code_of o) ≡ true
+unfolding code_of is_binary
+code_good Add = refl
+code_good Subtract = refl
+code_good Multiply = refl
+code_good Divide = refl
+
+-- a code and its operation
+module _ (code : ℕ) where
+  by_code : (P : Outcome Operation → Bool → Type 0) → (code ≡ 1 → P (done Add) true) → (code ≡ 2 → P (done Subtract) true) → (code ≡ 3 → P (done Multiply) true)
+      → (code ≡ 4 → P (done Divide) true) → P (stop 2 0) false → P (operation_of code) (is_binary code)
+  unfolding operation_of is_binary
+  by_code P one two three four none = go (ℕ_discrete code 1) (ℕ_discrete code 2) (ℕ_discrete code 3) (ℕ_discrete code 4)
+    where
+      go : Dec (code ≡ 1) → Dec (code ≡ 2) → Dec (code ≡ 3) → Dec (code ≡ 4) → P (operation_of code) (is_binary code)
+      go (yes e) b c d = rw e (one e)
+      go (no a) (yes e) c d = rw e (two e)
+      go (no a) (no b) (yes e) d = rw e (three e)
+      go (no a) (no b) (no c) (yes e) = rw e (four e)
+      go (no a) (no b) (no c) (no d) = rw (ne_eqb _ _ a, ne_eqb _ _ b, ne_eqb _ _ c, ne_eqb _ _ d, outside (dec_le 1 code)) none
+        where
+          outside : Dec (1 ≤ code) → (leb 1 code && leb code 4) ≡ false
+          outside (yes l) = let m : 4 < code = omega arith in rw (lt-leb _ _ m, and-false) refl
+          outside (no l) = rw (lt-leb 1 code (omega arith)) refl
+
+  pub code_is : (o : Operation) → operation_of code ≡ Ok o → code_of o ≡ code
+  unfolding code_of
+  code_is =
+      by_code (λ r b. (o : Operation) → r ≡ Ok o → code_of o ≡ code) (λ e o h. ap code_of (sym (done_inj h)) ∙ sym e) (λ e o h. ap code_of (sym (done_inj h)) ∙ sym e)
+      (λ e o h. ap code_of (sym (done_inj h)) ∙ sym e) (λ e o h. ap code_of (sym (done_inj h)) ∙ sym e) (λ o h. absurd (no_stop h))
+
+  pub code_known : (o : Operation) → operation_of code ≡ Ok o → is_binary code ≡ true
+  code_known o h = ap is_binary (sym (code_is o h)) ∙ code_good o
+
+  pub no_operation : (s : Stop) → Err s ≡ operation_of code → (is_binary code ≡ false) × (s ≡ record { number = 2; place = 0 })
+  no_operation =
+      by_code (λ r b. (s : Stop) → Err s ≡ r → (b ≡ false) × (s ≡ record { number = 2; place = 0 })) (λ e s h. absurd (no_stop h)) (λ e s h. absurd (no_stop h))
+      (λ e s h. absurd (no_stop h)) (λ e s h. absurd (no_stop h)) (λ s h. (refl, cc))
+
+  pub operation_ok : is_ok (operation_of code) ≡ is_binary code
+  operation_ok = by_code (λ r b. is_ok r ≡ b) (λ e. refl) (λ e. refl) (λ e. refl) (λ e. refl) refl
 
 -- not-a-number, or the operands
 module _ (code : ℕ) (v w : Value) (b : Bool) (be : b ≡ (is_nan v || is_nan w)) where
@@ -375,18 +419,18 @@ module _ (f : Format) (code left right : ℕ) where
         let z : is_over_zero v ≡ false = ap is_over_zero e ∙ over_exact code X.value Y.value (checked_small f left good.left_good) (checked_small f right good.right_good) in
         done_inj (re ∙ sym (write_done f (record { value = v; approximate = a || b }) (checked_known f left good.left_good) z)) ∙ rw (e, m) refl
 
-    -- the same by the parts p and q of the two values: what `combined_word` gives is what `binary` makes, demand 3 with it
+    -- the same by the parts p and q of the two values: what `combined_word` gives is what `binary` makes
     pub binary_made : (x y : Value) (p q : Parts) (a b : Bool) (r : ℕ) → x ≡ (number_in f left).value → y ≡ (number_in f right).value
         → p ≡ parts_of x → q ≡ parts_of y → a ≡ (number_in f left).approximate → b ≡ (number_in f right).approximate
         → done r ≡ write_number f (record { value = exact_value code (back p) (back q); approximate = a || b })
-        → (done r ≡ binary_word f code left right) × BestHere r
+        → done r ≡ binary_word f code left right
     binary_made x y p q a b r xe ye pe qe ae be re =
         let e : exact_value code (back p) (back q) ≡ exact_value code x y =
         rw (pe, qe) (exact_back code x y (checked_operand f left good.left_good x xe) (checked_operand f right good.right_good y ye))
         in
         let w : r ≡ combined f code X Y = written_combined x y (exact_value code (back p) (back q)) a b r xe ye e ae be re in
         let c = then_done (λ _. check_word f right) (sym good.left_good) (sym good.right_good) ∙ check_words (checked_known f left good.left_good) good.binary in
-        (checked_made _ _ binary_checked c w, subst⁻¹ BestHere w (best_made good))
+        checked_made _ _ binary_checked c w
 
   -- what holds of the word that two good words are combined to holds of what `binary` makes
   when_binary : (P : ℕ → Type 0) → (Good → P (combined f code X Y)) → WhenDone (binary_word f code left right) P
@@ -395,6 +439,13 @@ module _ (f : Format) (code left right : ℕ) where
   -- Demand 3, of every word that the four operations make.
   pub binary_best : WhenDone (binary_word f code left right) BestHere
   binary_best = when_binary BestHere best_made
+
+  -- what combining by the operation of a code comes to
+  pub by_operation : (o : Operation) → operation_of code ≡ Ok o → (r : Outcome ℕ) → r ≡ binary_word f (code_of o) left right
+      → (r ≡ binary_word f code left right) × WhenDone r BestHere
+  by_operation o h r e =
+      let w : r ≡ binary_word f code left right = e ∙ ap (λ (n : ℕ). binary_word f n left right) (code_is code o h) in
+      (w, subst⁻¹ (λ (p : Outcome ℕ). WhenDone p BestHere) w binary_best)
 
   -- Every word that they make is canonical.
   pub binary_canonical : (w : ℕ) → binary_word f code left right ≡ done w → CanonicalWord f w

@@ -4,7 +4,7 @@ ghost use Rattle.arithmetic.specs.Steps.{Small, on_line, is_fraction};
 ghost use Rattle.arithmetic.specs.Operands.{operand_of};
 ghost use Rattle.arithmetic.specs.Comparison.{comparison_outcome, order_of, signed_order, outside, compare_of, compare_values, compare_words};
 
-use crate::operand::{Operand, as_operand};
+use crate::operand::Operand;
 use slash::{Format, Parts, Stop, Value};
 
 // How the left word stands to the right one.
@@ -19,6 +19,7 @@ pub enum Order {
 // 2^62, where 0 lies on a line of numbers below 2^62 with signs.
 const ZERO: u64 = 4611686018427387904;
 
+#[tactic(auto, unfolding(crate::specs::Comparison::order_of))]
 fn size_order(m: u64, n: u64) -> Order
     ensures { result ≡ order_of m n }
 {
@@ -46,6 +47,7 @@ fn signed_order(s: bool, t: bool, m: u64, n: u64) -> Order
 }
 
 // Where an infinity of this sign lies.
+#[tactic(auto, unfolding(crate::specs::Comparison::outside))]
 fn outside_all(s: bool) -> Order
     ensures { result ≡ outside s }
 {
@@ -53,6 +55,7 @@ fn outside_all(s: bool) -> Order
 }
 
 // Finite values by the products of their parts across.
+#[tactic(auto, unfolding(crate::specs::Comparison::compare_of))]
 fn compare_parts(p: Parts, q: Parts) -> Order
     requires { Small (Operand.Finite p) × Small (Operand.Finite q) }
     ensures { result ≡ compare_of (Operand.Finite p) (Operand.Finite q) }
@@ -65,19 +68,18 @@ fn compare_parts(p: Parts, q: Parts) -> Order
     )
 }
 
+#[tactic(auto, unfolding(crate::specs::Comparison::compare_of))]
 fn compare_operands(x: Operand, y: Operand) -> Order
     requires { Small x × Small y }
     ensures { result ≡ compare_of x y }
 {
-    match x {
-        Operand::Finite(p) => match y {
-            Operand::Finite(q) => compare_parts(p, q),
-            Operand::Infinite(t) => outside_all(!t),
-        },
-        Operand::Infinite(s) => match y {
-            Operand::Finite(_) => outside_all(s),
-            Operand::Infinite(t) => { if s ^ t { outside_all(s) } else { Order::Equal } }
-        },
+    match (x, y) {
+        (Operand::Finite(p), Operand::Finite(q)) => compare_parts(p, q),
+        (Operand::Finite(_), Operand::Infinite(t)) => outside_all(!t),
+        (Operand::Infinite(s), Operand::Finite(_)) => outside_all(s),
+        (Operand::Infinite(s), Operand::Infinite(t)) => {
+            if s ^ t { outside_all(s) } else { Order::Equal }
+        }
     }
 }
 
@@ -89,18 +91,14 @@ fn compare_any(v: Value, w: Value) -> Order
     if slash::is_nan(v) | slash::is_nan(w) {
         return Order::Unordered;
     }
-    compare_operands(as_operand(v), as_operand(w))
+    compare_operands(Operand::from(v), Operand::from(w))
 }
 
+#[tactic(auto, unfolding(crate::specs::Steps::is_fraction))]
 fn is_fraction(v: Value) -> bool
     ensures { result ≡ is_fraction v }
 {
-    match v {
-        Value::Fraction(_) => true,
-        Value::Zero(_) => false,
-        Value::Infinity(_) => false,
-        Value::NotANumber => false,
-    }
+    matches!(v, Value::Fraction(_))
 }
 
 // Two fractions, which most words are, go the short way: one test for both, so that there is one

@@ -4,20 +4,19 @@ ghost use Rattle.slash.specs.Answers.{WhenDone};
 ghost use Rattle.slash.specs.Formats.{known};
 ghost use Rattle.vectors.specs.Each.{vector_after, stop_only, EachPlace};
 ghost use Rattle.vectors.specs.Places.{places};
-ghost use Rattle.arithmetic.specs.Operations.{is_binary};
 ghost use Rattle.arithmetic.specs.Each.{binary_each, BestBinary};
-ghost use Rattle.arithmetic.specs.Steps.{binary_in};
+ghost use Rattle.arithmetic.specs.Steps.{binary_in, code_of};
 
-use crate::operation::{combined, is_binary};
+use crate::operation::{Operation, combined};
 use slash::{Format, Stop};
 
 // The words have been checked, so that none is 0 for a stop.
-fn store_binary(f: Format, code: u64, left: &[u64], right: &[u64], out: &mut [u64])
-    requires { (known f ≡ true) × (is_binary code ≡ true) × (length left.now ≡ length right.now) × (length left.now ≡ length out.old) }
-    ensures { out.new ≡ map (binary_in f code) (places left.now right.now) }
+fn store_binary(f: Format, operation: Operation, left: &[u64], right: &[u64], out: &mut [u64])
+    requires { (known f ≡ true) × (length left.now ≡ length right.now) × (length left.now ≡ length out.old) }
+    ensures { out.new ≡ map (binary_in f (code_of operation)) (places left.now right.now) }
 {
     for (i, l) in left.iter().enumerate() {
-        out[i] = combined(f, code, *l, right[i]).unwrap_or(0);
+        out[i] = combined(f, operation, *l, right[i]).unwrap_or(0);
     }
 }
 
@@ -34,9 +33,7 @@ pub fn binary_each(
     ensures best { WhenDone result (λ _. EachPlace (BestBinary f code) (places left.now right.now) out.new) }
 {
     f.check()?;
-    if !is_binary(code) {
-        return Err(Stop::plain(Stop::CODE));
-    }
+    let operation = Operation::try_from(code)?;
     if left.len() != right.len() {
         return Err(Stop::plain(Stop::LENGTH));
     }
@@ -44,6 +41,6 @@ pub fn binary_each(
         return Err(Stop::plain(Stop::LENGTH));
     }
     vectors::check_pairs(f, left, right)?;
-    store_binary(f, code, left, right, out);
+    store_binary(f, operation, left, right, out);
     Ok(())
 }

@@ -1,7 +1,7 @@
 // An operand of an operation: a finite value with its parts, or an infinity. Not-a-number is taken
 // out before.
 ghost use Rattle.std.specs.Prelude.{◌≡◌};
-ghost use Rattle.arithmetic.specs.Operands.{operand_of, sign_of};
+ghost use Rattle.arithmetic.specs.Operands.{operand_of, sign_of, turned};
 
 use slash::{Parts, Value};
 
@@ -12,26 +12,46 @@ pub(crate) enum Operand {
 }
 
 // Zero is finite too, as 0/1.
-pub(crate) fn as_operand(v: Value) -> Operand
-    ensures { result ≡ operand_of v }
-{
-    match v {
-        Value::Fraction(p) => Operand::Finite(p),
-        Value::Zero(s) => Operand::Finite(Parts {
-            negative: s,
-            numerator: 0,
-            denominator: 1,
-        }),
-        Value::Infinity(s) => Operand::Infinite(s),
-        Value::NotANumber => Operand::Infinite(false),
+impl From<Value> for Operand {
+    ghost from_gives = { λ v r. r ≡ operand_of v };
+
+    #[tactic(auto, unfolding(crate::specs::Operands::operand_of))]
+    fn from(v: Value) -> Operand {
+        match v {
+            Value::Fraction(p) => Operand::Finite(p),
+            Value::Zero(s) => Operand::Finite(Parts {
+                negative: s,
+                numerator: 0,
+                denominator: 1,
+            }),
+            Value::Infinity(s) => Operand::Infinite(s),
+            Value::NotANumber => Operand::Infinite(false),
+        }
     }
 }
 
-pub(crate) fn sign(x: Operand) -> bool
-    ensures { result ≡ sign_of x }
-{
-    match x {
-        Operand::Finite(p) => p.negative,
-        Operand::Infinite(s) => s,
+impl Operand {
+    #[tactic(auto, unfolding(crate::specs::Operands::sign_of))]
+    pub(crate) fn sign(self) -> bool
+        ensures { result ≡ sign_of self }
+    {
+        match self {
+            Operand::Finite(p) => p.negative,
+            Operand::Infinite(s) => s,
+        }
+    }
+
+    // The same operand with its sign turned.
+    #[tactic(auto, unfolding(crate::specs::Operands::turned))]
+    pub(crate) fn turned(self) -> Operand
+        ensures { result ≡ turned self }
+    {
+        match self {
+            Operand::Finite(p) => Operand::Finite(Parts {
+                negative: !p.negative,
+                ..p
+            }),
+            Operand::Infinite(s) => Operand::Infinite(!s),
+        }
     }
 }

@@ -1,5 +1,4 @@
 use Rattle.arithmetic.proofs.OperandLaws.{products}
-use Rattle.arithmetic.specs.Comparison.{compare_of}
 use native.Mathlib.Omega.{arith}
 use Rattle.arithmetic.proofs.comparison.compare_parts.Goals as goal
 
@@ -11,7 +10,3 @@ overflow_mul-q c = omega (arith, products c.requires.1 c.requires.0)
 
 pub signed_order-requires : goal.signed_order-requires
 signed_order-requires c = ((products c.requires.0 c.requires.1).ad, (products c.requires.1 c.requires.0).ad)
-
-pub returns : goal.returns
-unfolding compare_of
-returns c = c.signed_order.ensures

@@ -10,9 +10,9 @@ returns-then-is_nan c = exact_nan _ _ _ _ (ap₂ ◌||◌ c.is_nan.ensures c.is_
 pub exact-requires : goal.exact-requires
 exact-requires c =
     let pre = c.requires in
-    (subst Small (sym c.as_operand.ensures) pre.0, subst Small (sym c.as_operand-2.ensures) pre.1)
+    (subst Small (sym c.from.ensures) pre.0, subst Small (sym c.from-2.ensures) pre.1)
 
 pub returns : goal.returns
 returns c =
     exact_operands _ _ _ _ (ap₂ ◌||◌ c.is_nan.ensures c.is_nan-2.ensures) c.if-is_nan.false
-    _ _ c.as_operand.ensures c.as_operand-2.ensures _ c.exact.ensures
+    _ _ c.from.ensures c.from-2.ensures _ c.exact.ensures

@@ -1,6 +1,4 @@
 use Rattle.arithmetic.proofs.OperandLaws.{products}
-use Rattle.arithmetic.specs.Operations.{product_parts}
-use mathlib.Core.Path.{refl}
 use native.Mathlib.Omega.{arith}
 use Rattle.arithmetic.proofs.operation.product_parts.Goals as goal
 
@@ -9,7 +7,3 @@ overflow_mul-result c = let pre = c.requires in omega (arith, products pre.0 pre
 
 pub overflow_mul-result-2 : goal.overflow_mul-result-2
 overflow_mul-result-2 c = let pre = c.requires in omega (arith, products pre.0 pre.1)
-
-pub returns : goal.returns
-unfolding product_parts
-returns c = refl

@@ -1,4 +1,3 @@
-use Rattle.arithmetic.proofs.OperationLaws.{parts_sum}
 use Rattle.arithmetic.proofs.OperandLaws.{products}
 use native.Mathlib.Omega.{arith}
 use Rattle.arithmetic.proofs.operation.sum_parts.Goals as goal
@@ -17,6 +16,3 @@ sum_size-size-requires c =
 
 pub overflow_mul-result : goal.overflow_mul-result
 overflow_mul-result c = let pre = c.requires in omega (arith, products pre.0 pre.1)
-
-pub returns : goal.returns
-returns c = parts_sum _ _ _ _ c.sum_size-size.ensures c.sum_sign.ensures
