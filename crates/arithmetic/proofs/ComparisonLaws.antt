@@ -22,7 +22,7 @@ use Rattle.slash.specs.declared.number.Value.TheVariants.{Fraction, Zero, Infini
 use Rattle.slash.specs.declared.number.Number.{Number}
 use Rattle.arithmetic.specs.Operands.{operand_of}
 use Rattle.arithmetic.specs.Steps.{Small, on_line, is_fraction}
-use Rattle.arithmetic.specs.Comparison.{order_number, order_of, signed_order, outside, compare_of, compare_values, compare_words}
+use Rattle.arithmetic.specs.Comparison.{order_number, order_of, signed_order, compare_of, compare_values, compare_words}
 use Rattle.arithmetic.specs.declared.operand.Operand.{Operand}
 use Rattle.arithmetic.specs.declared.operand.Operand.TheVariants.{Finite}
 use Rattle.arithmetic.specs.declared.comparison.Order.{Order}
@@ -113,15 +113,6 @@ line_order s t m n l k = go s t (ℕ_discrete m 0) (ℕ_discrete n 0)
     go s t (yes d) (yes e) = zero s t d e
     go s t (yes d) (no e) = let i : m ≡ 0 → n ≡ 0 → ⊥ = λ _ h. e h in some s t i (neither i (yes d))
     go s t (no d) e = let i : m ≡ 0 → n ≡ 0 → ⊥ = λ h _. d h in some s t i (neither i (no d))
-
-module _ (s : Bool) where
-  pub outside_below : s ≡ true → Below ≡ outside s
-  unfolding outside
-  outside_below e = rw e refl
-
-  pub outside_above : s ≡ false → Above ≡ outside s
-  unfolding outside
-  outside_above e = rw e refl
 
 -- not-a-number, or the operands
 module _ (v w : Value) (b : Bool) (be : b ≡ (is_nan v || is_nan w)) where

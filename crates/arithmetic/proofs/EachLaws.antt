@@ -16,14 +16,14 @@ use Rattle.slash.specs.declared.format.Format.{Format}
 use Rattle.vectors.specs.Each.{each, vector_after, stop_only, EachPlace}
 use Rattle.vectors.specs.Places.{Operands, places, same_length}
 use Rattle.vectors.specs.Checks.{check_operands, checked_pairs}
-use Rattle.slash.proofs.AnswerLaws.{then_stop}
-use Rattle.slash.proofs.FormatLaws.{format_good}
+use Rattle.slash.proofs.AnswerLaws.{no_stop, passed_on, plain_stop, then_stop}
+use Rattle.slash.proofs.FormatLaws.{format_good, check_known}
 use Rattle.vectors.proofs.EachLaws.{each_stopped, each_done}
 use Rattle.vectors.proofs.CheckLaws.{pairs_all}
 use Rattle.arithmetic.specs.Operations.{is_binary, binary_word}
 use Rattle.arithmetic.specs.Each.{binary_each, BestBinary}
 use Rattle.arithmetic.specs.Steps.{binary_in}
-use Rattle.arithmetic.proofs.OperationLaws.{binary_stop_only, binary_best}
+use Rattle.arithmetic.proofs.OperationLaws.{no_operation, code_known, code_is, binary_stop_only, binary_best}
 
 module _ (f : Format) (code : ℕ) (left right out : List ℕ) where
   pub binary_each_format : {s : Stop} → Err s ≡ check_format f → Err s ≡ binary_each f code left right out
@@ -50,17 +50,34 @@ pub binary_agrees : (f : Format) (code : ℕ) → known f ≡ true → is_binary
 unfolding check_operands
 binary_agrees f code h i x = binary_stop_only f code x.left x.right h i
 
+-- an answer by what is told of it
+stop_back : {s : Stop} (o : Outcome (List ℕ)) → Err s ≡ stop_only o → Err s ≡ o
+unfolding stop_only
+stop_back (Err t) e = ap (λ (r : Stop). Err r) cc
+stop_back (Ok ws) e = absurd (no_stop e)
+
+done_back : (o : Outcome (List ℕ)) (old new : List ℕ) → done tt ≡ stop_only o → new ≡ vector_after o old → done new ≡ o
+unfolding stop_only vector_after
+done_back (Err t) old new e n = absurd (no_stop (sym e))
+done_back (Ok ws) old new e n = ap done n
+
 module _ (f : Format) (code : ℕ) (left right out : List ℕ) where
   module _ (h : known f ≡ true) (i : is_binary code ≡ true) (e : length left ≡ length right) (g : length left ≡ length out) (res : Outcome (Unit {0})) (re : res ≡ checked_pairs f left right) where
-    pub binary_each_stopped : (s : Stop) → res ≡ Err s
-        → (Err s ≡ stop_only (binary_each f code left right out)) × ((out ≡ vector_after (binary_each f code left right out) out) × Unit {0})
+    pub binary_each_stopped : (s : Stop) → res ≡ Err s → Err s ≡ binary_each f code left right out
     unfolding BestBinary
-    binary_each_stopped = each_stopped (λ x. binary_word f code x.left x.right) (check_operands f) (binary_agrees f code h i) (BestBinary f code) (λ x. binary_best f code x.left x.right) (places left right) out (binary_each f code left right out) (binary_each_all f code left right out h i e g) res (re ∙ sym (pairs_all f left right h e))
+    binary_each_stopped s se =
+        stop_back _ (each_stopped (λ x. binary_word f code x.left x.right) (check_operands f) (binary_agrees f code h i) (BestBinary f code) (λ x. binary_best f code x.left x.right) (places left right) out (binary_each f code left right out) (binary_each_all f code left right out h i e g) res (re ∙ sym (pairs_all f left right h e)) s se).0
 
-    pub binary_each_done : res ≡ Ok tt → (new : List ℕ) → new ≡ map (binary_in f code) (places left right)
-        → (done tt ≡ stop_only (binary_each f code left right out)) × ((new ≡ vector_after (binary_each f code left right out) out) × EachPlace (BestBinary f code) (places left right) new)
-    unfolding BestBinary binary_in
-    binary_each_done = each_done (λ x. binary_word f code x.left x.right) (check_operands f) (binary_agrees f code h i) (BestBinary f code) (λ x. binary_best f code x.left x.right) (places left right) out (binary_each f code left right out) (binary_each_all f code left right out h i e g) res (re ∙ sym (pairs_all f left right h e))
+    module _ (ok : res ≡ Ok tt) (new : List ℕ) (ne : new ≡ map (binary_in f code) (places left right)) where
+      made : (done tt ≡ stop_only (binary_each f code left right out)) × ((new ≡ vector_after (binary_each f code left right out) out) × EachPlace (BestBinary f code) (places left right) new)
+      unfolding BestBinary binary_in
+      made = each_done (λ x. binary_word f code x.left x.right) (check_operands f) (binary_agrees f code h i) (BestBinary f code) (λ x. binary_best f code x.left x.right) (places left right) out (binary_each f code left right out) (binary_each_all f code left right out h i e g) res (re ∙ sym (pairs_all f left right h e)) ok new ne
+
+      pub binary_each_done : done new ≡ binary_each f code left right out
+      binary_each_done = done_back _ out new made.0 made.1.0
+
+      pub binary_each_best : EachPlace (BestBinary f code) (places left right) new
+      binary_each_best = made.1.1
 
 -- what is stored at a place
 pub stored_at : (f : Format) (code : ℕ) (x : Operands) (o : Outcome ℕ) → o ≡ binary_word f code x.left x.right → (w : ℕ) → w ≡ result_unwrap_or o 0 → w ≡ binary_in f code x
@@ -73,3 +90,6 @@ stored_at f code x o e w h = h ∙ go o ∙ ap or_zero e
 
 pub stored_by : (f : Format) (n code : ℕ) (xs : List Operands) → n ≡ code → map (binary_in f n) xs ≡ map (binary_in f code) xs
 stored_by f n code xs e = ap (λ (m : ℕ). map (binary_in f m) xs) e
+
+-- what `binary_each` is proved by
+pub ruleset steps = (passed_on, plain_stop, check_known, no_operation, code_known, code_is, binary_each_format, binary_each_code, binary_each_length, binary_each_stopped, binary_each_done, binary_each_best)

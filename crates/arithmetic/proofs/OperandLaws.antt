@@ -2,8 +2,8 @@
 -- `read_small`: what a word says has parts below 2^31. `products`: so no product of two leaves 62 bits. `same_operand`: a value and its parts
 -- are the same operand.
 use mathlib.Core.Path.{◌≡◌, refl, sym, ap, ◌∙◌, subst, subst⁻¹}
-use mathlib.Core.Bool.{Bool, true}
-use borrow.Author.Tests.{eq-eqb, ne_eqb}
+use mathlib.Core.Bool.{true}
+use borrow.Author.Tests.{ne_eqb}
 use Prim.Native.Nat.{ℕ, ◌*◌, ◌^◌, ◌≤◌, ◌<◌}
 use native.Mathlib.Omega.{arith}
 use native.Mathlib.Nat.{mul-le-mul}
@@ -49,9 +49,6 @@ products s t =
       bd = product_lt s.small_denominator t.small_denominator;
     }
 
-pub small_finite : {x : Operand} {p : Parts} → x ≡ Finite p → Small x → Small (Finite p)
-small_finite e s = subst Small e s
-
 pub small_turned : (x : Operand) → Small x → Small (turned x)
 unfolding turned Small
 small_turned (Finite p) s =
@@ -78,19 +75,6 @@ checked_operand f w c v e =
     subst (λ (u : Value). Small (operand_of u)) (sym (e ∙ ap (λ (x : Number). x.value) (checked_number f w c))) (checked_small f w c)
 
 -- ---- a value from its parts
-
-module _ (s : Bool) (n d : ℕ) where
-  pub from_nan : d ≡ 0 → n ≡ 0 → NotANumber ≡ value_from s n d
-  unfolding value_from
-  from_nan e z = rw (eq-eqb _ _ e, eq-eqb _ _ z) refl
-
-  pub from_infinity : d ≡ 0 → (n ≡ 0 → ⊥) → Infinity s ≡ value_from s n d
-  unfolding value_from
-  from_infinity e z = rw (eq-eqb _ _ e, ne_eqb _ _ z) refl
-
-  pub from_fraction : (d ≡ 0 → ⊥) → Fraction (record { negative = s; numerator = n; denominator = d }) ≡ value_from s n d
-  unfolding value_from
-  from_fraction e = rw (ne_eqb _ _ e) refl
 
 abbrev pub back : Parts → Value
 back p = value_from p.negative p.numerator p.denominator

@@ -22,9 +22,9 @@ use Rattle.slash.specs.Numbers.{signed_of, is_nan, parts_of, pair_of}
 use Rattle.slash.specs.Reading.{number_of, number_in, check_word}
 use Rattle.slash.specs.Writing.{nan_word, word_for, is_over_zero, write_number}
 use Rattle.slash.specs.Best.{ExactSize, ◌over◌, BestForSize, BestForValue}
-use Rattle.slash.proofs.AnswerLaws.{done_inj, no_stop, then_stop, then_done, checked_stop, checked_made, some_not, if_case, when_checked}
-use Rattle.slash.proofs.FormatLaws.{format_good}
-use Rattle.slash.proofs.ReadingLaws.{checked_known, checked_number}
+use Rattle.slash.proofs.AnswerLaws.{passed_on, plain_stop, done_inj, no_stop, then_stop, then_done, checked_stop, checked_made, some_not, if_case, when_checked}
+use Rattle.slash.proofs.FormatLaws.{format_good, check_known}
+use Rattle.slash.proofs.ReadingLaws.{check_stop, check_good, check_value, check_mark, checked_known, checked_number}
 use Rattle.slash.proofs.WritingLaws.{write_done, word_best}
 use Rattle.slash.specs.Canonical.{CanonicalWord}
 use Rattle.slash.proofs.CanonicalLaws.{written_canonical}
@@ -49,19 +49,6 @@ use Rattle.arithmetic.proofs.OperandLaws.{small_turned, checked_small, checked_o
 use Rattle.arithmetic.proofs.SizeLaws.{size_exact}
 
 -- ---- the sum
-
-module _ (opposed : Bool) (ad bc : ℕ) where
-  pub size_less : opposed ≡ true → ad < bc → bc - ad ≡ sum_size opposed ad bc
-  unfolding sum_size
-  size_less e h = rw e (omega arith)
-
-  pub size_more : opposed ≡ true → bc ≤ ad → ad - bc ≡ sum_size opposed ad bc
-  unfolding sum_size
-  size_more e h = rw e (omega arith)
-
-  pub size_plus : opposed ≡ false → ad + bc ≡ sum_size opposed ad bc
-  unfolding sum_size
-  size_plus e = rw e refl
 
 module _ (s t : Bool) (ad bc size : ℕ) where
   pub sign_zero : size ≡ 0 → false ≡ sum_sign s t ad bc size
@@ -142,23 +129,7 @@ pub parts_exact : (p q : Parts)
 unfolding sum_parts
 parts_exact p q = sum_exact (p.numerator * q.denominator) (p.denominator * q.numerator) p.negative q.negative
 
-pub parts_sum : (p q : Parts) (size : ℕ) (sign : Bool)
-    → size ≡ sum_size (differ p.negative q.negative) (p.numerator * q.denominator) (p.denominator * q.numerator)
-    → sign ≡ sum_sign p.negative q.negative (p.numerator * q.denominator) (p.denominator * q.numerator) size
-    → record { negative = sign; numerator = size; denominator = p.denominator * q.denominator } ≡ sum_parts p q
-unfolding sum_parts
-parts_sum p q size sign e g = rw (g, e) refl
-
 -- ---- products and quotients
-
-module _ (s : Bool) (p : Parts) where
-  pub times_zero : p.numerator ≡ 0 → NotANumber ≡ times_infinity s p
-  unfolding times_infinity
-  times_zero z = rw (eq-eqb _ _ z) refl
-
-  pub times_some : (p.numerator ≡ 0 → ⊥) → Infinity s ≡ times_infinity s p
-  unfolding times_infinity
-  times_some n = rw (ne_eqb _ _ n) refl
 
 module _ (s : Bool) (p q : Parts) where
   pub divided_none : q.numerator ≡ 0 → p.numerator ≡ 0 → NotANumber ≡ divided_by s p q
@@ -440,12 +411,13 @@ module _ (f : Format) (code left right : ℕ) where
   pub binary_best : WhenDone (binary_word f code left right) BestHere
   binary_best = when_binary BestHere best_made
 
-  -- what combining by the operation of a code comes to
-  pub by_operation : (o : Operation) → operation_of code ≡ Ok o → (r : Outcome ℕ) → r ≡ binary_word f (code_of o) left right
-      → (r ≡ binary_word f code left right) × WhenDone r BestHere
-  by_operation o h r e =
-      let w : r ≡ binary_word f code left right = e ∙ ap (λ (n : ℕ). binary_word f n left right) (code_is code o h) in
-      (w, subst⁻¹ (λ (p : Outcome ℕ). WhenDone p BestHere) w binary_best)
+  -- an answer that is so has it, also one by the operation of the code
+  module _ (o : Operation) (h : operation_of code ≡ Ok o) (r : Outcome ℕ) (e : r ≡ binary_word f (code_of o) left right) where
+    pub by_operation : r ≡ binary_word f code left right
+    by_operation = e ∙ ap (λ (n : ℕ). binary_word f n left right) (code_is code o h)
+
+    pub best_too : WhenDone r BestHere
+    best_too = subst⁻¹ (λ (p : Outcome ℕ). WhenDone p BestHere) by_operation binary_best
 
   -- Every word that they make is canonical.
   pub binary_canonical : (w : ℕ) → binary_word f code left right ≡ done w → CanonicalWord f w
@@ -506,3 +478,6 @@ module _ (f : Format) (code left right : ℕ) where
       let c = then_done (λ _. check_word f right) (sym g.left_good) (sym g.right_good) ∙ check_words (checked_known f left g.left_good) g.binary in
       let e : word_for f (X.approximate || Y.approximate) E ≡ nan_word f = ap (word_for f (X.approximate || Y.approximate)) (sym (exact_nan code X.value Y.value _ refl n)) in
       sym (checked_made _ _ binary_checked c (sym e))
+
+-- what `combined` and `binary` are proved by
+pub ruleset steps = (passed_on, plain_stop, check_known, check_stop, check_good, check_value, check_mark, stop_format, stop_code, stop_left, stop_right, no_operation, code_good, both_good, binary_made, by_operation, best_too)

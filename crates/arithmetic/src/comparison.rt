@@ -39,6 +39,7 @@ fn place(negative: bool, size: u64) -> u64
 
 // +0 = -0, and otherwise what is negative lies below what isn't. By places on a line, so that no
 // branch hangs on a sign.
+#[tactic(auto, using(crate::proofs::ComparisonLaws::line_order))]
 fn signed_order(s: bool, t: bool, m: u64, n: u64) -> Order
     requires { (m < 2 ^ 62) × (n < 2 ^ 62) }
     ensures { result ≡ signed_order s t m n }
@@ -55,7 +56,7 @@ fn outside_all(s: bool) -> Order
 }
 
 // Finite values by the products of their parts across.
-#[tactic(auto, unfolding(crate::specs::Comparison::compare_of))]
+#[tactic(auto, using(crate::proofs::OperandLaws::products), unfolding(crate::specs::Comparison::compare_of))]
 fn compare_parts(p: Parts, q: Parts) -> Order
     requires { Small (Operand.Finite p) × Small (Operand.Finite q) }
     ensures { result ≡ compare_of (Operand.Finite p) (Operand.Finite q) }
@@ -84,6 +85,7 @@ fn compare_operands(x: Operand, y: Operand) -> Order
 }
 
 // Unordered if either is not-a-number.
+#[tactic(auto, unfolding(crate::specs::Comparison::compare_values))]
 fn compare_any(v: Value, w: Value) -> Order
     requires { Small (operand_of v) × Small (operand_of w) }
     ensures { result ≡ compare_values v w }

@@ -21,6 +21,7 @@ fn store_binary(f: Format, operation: Operation, left: &[u64], right: &[u64], ou
 }
 
 // A binary operation at each place of left and right.
+#[tactic(auto, using(crate::proofs::EachLaws::steps), unfolding(vectors::specs::Each::stop_only, vectors::specs::Each::vector_after))]
 pub fn binary_each(
     f: Format,
     code: u64,

@@ -61,7 +61,7 @@ fn sum_sign(s: bool, t: bool, ad: u64, bc: u64, size: u64) -> bool
     }
 }
 
-#[tactic(auto, unfolding(crate::specs::Operations::sum_parts))]
+#[tactic(auto, using(crate::proofs::OperandLaws::products), unfolding(crate::specs::Operations::sum_parts))]
 fn sum_parts(p: Parts, q: Parts) -> Parts
     requires { Small (Operand.Finite p) × Small (Operand.Finite q) }
     ensures { result ≡ sum_parts p q }
@@ -95,7 +95,7 @@ fn sum(x: Operand, y: Operand) -> Value
     }
 }
 
-#[tactic(auto, unfolding(crate::specs::Operations::product_parts))]
+#[tactic(auto, using(crate::proofs::OperandLaws::products), unfolding(crate::specs::Operations::product_parts))]
 fn product_parts(s: bool, p: Parts, q: Parts) -> Parts
     requires { Small (Operand.Finite p) × Small (Operand.Finite q) }
     ensures { result ≡ product_parts s p q }
@@ -132,7 +132,7 @@ fn product(s: bool, x: Operand, y: Operand) -> Value
     }
 }
 
-#[tactic(auto, unfolding(crate::specs::Operations::divided_by))]
+#[tactic(auto, using(crate::proofs::OperandLaws::products), unfolding(crate::specs::Operations::divided_by))]
 fn divided(s: bool, p: Parts, q: Parts) -> Value
     requires { Small (Operand.Finite p) × Small (Operand.Finite q) }
     ensures { result ≡ divided_by s p q }
@@ -178,6 +178,7 @@ fn exact(operation: Operation, x: Operand, y: Operand) -> Value
 }
 
 // The exact result of two values: any not-a-number operand gives one.
+#[tactic(auto, unfolding(crate::specs::Operations::exact_value))]
 fn exact_value(operation: Operation, v: Value, w: Value) -> Value
     requires { Small (operand_of v) × Small (operand_of w) }
     ensures { result ≡ exact_value (code_of operation) v w }
@@ -189,6 +190,7 @@ fn exact_value(operation: Operation, v: Value, w: Value) -> Value
 }
 
 // Whether there is such a code.
+#[tactic(auto, using(crate::proofs::OperationLaws::operation_ok))]
 pub fn is_binary(code: u64) -> bool
     ensures { result ≡ is_binary code }
 {
@@ -217,6 +219,7 @@ fn value_from(s: bool, n: u64, d: u64) -> Value
 
 // What a/b and c/d with the signs s and t come to, written: in plain numbers, of which the first
 // six stay in registers. Handed on as `Parts` and a `Format`, a call took 6 to 12 % longer.
+#[tactic(auto, using(crate::proofs::OperationLaws::written_from, crate::proofs::OperationLaws::written_good))]
 fn combined_word(
     operation: Operation,
     a: u64,
@@ -241,6 +244,7 @@ fn combined_word(
 
 // The word of two words combined, of a known format. The left word is checked first.
 #[inline(always)]
+#[tactic(auto, using(crate::proofs::OperationLaws::steps))]
 pub(crate) fn combined(f: Format, operation: Operation, left: u64, right: u64) -> Result<u64, Stop>
     requires { known f ≡ true }
     ensures { result ≡ binary_word f (code_of operation) left right }
@@ -265,6 +269,7 @@ pub(crate) fn combined(f: Format, operation: Operation, left: u64, right: u64) -
 }
 
 // left and right combined: code 1 adds, 2 subtracts, 3 multiplies, 4 divides.
+#[tactic(auto, using(crate::proofs::OperationLaws::steps))]
 pub fn binary(f: Format, code: u64, left: u64, right: u64) -> Result<u64, Stop>
     ensures written { result ≡ binary_word f code left right }
     ensures best { WhenDone result (λ w. BestForSize f (binary_size code (number_of f left).value (number_of f right).value) w) }

@@ -15,9 +15,9 @@ use Rattle.slash.specs.Numbers.{is_nan, parts_of, pair_of}
 use Rattle.slash.specs.Reading.{number_of, number_in, check_word}
 use Rattle.slash.specs.Writing.{nan_word, word_for, is_over_zero, write_number}
 use Rattle.slash.specs.Best.{ExactSize, ◌over◌, size_of, BestForValue}
-use Rattle.slash.proofs.AnswerLaws.{no_stop, then_stop, then_done, checked_stop, checked_made, when_checked}
-use Rattle.slash.proofs.FormatLaws.{format_good, good_known}
-use Rattle.slash.proofs.ReadingLaws.{checked_known, checked_number, checked_read}
+use Rattle.slash.proofs.AnswerLaws.{passed_on, no_stop, then_stop, then_done, checked_stop, checked_made, when_checked}
+use Rattle.slash.proofs.FormatLaws.{format_good, good_known, check_known}
+use Rattle.slash.proofs.ReadingLaws.{check_stop, check_good, check_value, check_mark, checked_known, checked_number, checked_read}
 use Rattle.slash.proofs.WritingLaws.{write_done, word_best}
 use Rattle.slash.specs.Canonical.{CanonicalWord}
 use Rattle.slash.proofs.CanonicalLaws.{held_over, read_held, written_canonical}
@@ -152,3 +152,6 @@ module _ (f g : Format) (w : ℕ) where
   unfolding converted word_for
   convert_nan i c n =
       sym (checked_made _ _ convert_checked (sym c ∙ check_operand (checked_known f w c) i) (sym (ap (word_for g X.approximate) n)))
+
+-- what `converted` and `convert` are proved by
+pub ruleset steps = (passed_on, check_known, check_stop, check_good, check_value, check_mark, stop_source, stop_target, stop_word, convert_written, convert_made)

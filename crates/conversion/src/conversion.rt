@@ -10,10 +10,10 @@ use slash::{Format, Number, Stop};
 
 // w as a word of the target, where both formats are known.
 #[inline(always)]
+#[tactic(auto, using(crate::proofs::ConversionLaws::steps))]
 pub(crate) fn converted(source: Format, target: Format, w: u64) -> Result<u64, Stop>
     requires { (known source ≡ true) × (known target ≡ true) }
-    ensures written { result ≡ convert_word source target w }
-    ensures best { WhenDone result (λ v. BestForValue target (number_of source w).value v) }
+    ensures { result ≡ convert_word source target w }
 {
     let x = slash::check(source, w)?;
     let value = x.value();
@@ -22,6 +22,7 @@ pub(crate) fn converted(source: Format, target: Format, w: u64) -> Result<u64, S
 }
 
 // w, a word of the source format, as a word of the target's.
+#[tactic(auto, using(crate::proofs::ConversionLaws::steps))]
 pub fn convert(source: Format, target: Format, w: u64) -> Result<u64, Stop>
     ensures written { result ≡ convert_word source target w }
     ensures best { WhenDone result (λ v. BestForValue target (number_of source w).value v) }

@@ -21,6 +21,7 @@ fn store_converted(source: Format, target: Format, operand: &[u64], out: &mut [u
 }
 
 // A conversion at each place of operand.
+#[tactic(auto, using(crate::proofs::EachLaws::steps), unfolding(vectors::specs::Each::stop_only, vectors::specs::Each::vector_after))]
 pub fn convert_each(
     source: Format,
     target: Format,

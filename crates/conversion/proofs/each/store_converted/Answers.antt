@@ -12,7 +12,7 @@ converted-requires c = (c.requires.0, c.requires.1)
 
 pub loop-i-preserved : goal.loop-i-preserved
 loop-i-preserved c =
-    storing_next _ _ _ _ _ c.loop-i.invariant c.requires.2 _ _ (word_at _ _ c.loop-i-test.true) c.loop-i-test.true (stored_at _ _ _ _ c.converted.ensures.written _ c.unwrap_or.ensures)
+    storing_next _ _ _ _ _ c.loop-i.invariant c.requires.2 _ _ (word_at _ _ c.loop-i-test.true) c.loop-i-test.true (stored_at _ _ _ _ c.converted.ensures _ c.unwrap_or.ensures)
 
 pub returns : goal.returns
 returns c = storing_end _ _ _ _ _ c.loop-i.invariant c.requires.2 c.loop-i-test.false
