@@ -77,10 +77,8 @@ fn compare_operands(x: Operand, y: Operand) -> Order
     match (x, y) {
         (Operand::Finite(p), Operand::Finite(q)) => compare_parts(p, q),
         (Operand::Finite(_), Operand::Infinite(t)) => outside_all(!t),
-        (Operand::Infinite(s), Operand::Finite(_)) => outside_all(s),
-        (Operand::Infinite(s), Operand::Infinite(t)) => {
-            if s ^ t { outside_all(s) } else { Order::Equal }
-        }
+        (Operand::Infinite(s), Operand::Infinite(t)) if s == t => Order::Equal,
+        (Operand::Infinite(s), _) => outside_all(s),
     }
 }
 

@@ -18,12 +18,7 @@ impl From<Value> for Operand {
     #[tactic(auto, unfolding(crate::specs::Operands::operand_of))]
     fn from(v: Value) -> Operand {
         match v {
-            Value::Fraction(p) => Operand::Finite(p),
-            Value::Zero(s) => Operand::Finite(Parts {
-                negative: s,
-                numerator: 0,
-                denominator: 1,
-            }),
+            Value::Fraction(_) | Value::Zero(_) => Operand::Finite(slash::parts_of(v)),
             Value::Infinity(s) => Operand::Infinite(s),
             Value::NotANumber => Operand::Infinite(false),
         }

@@ -84,14 +84,8 @@ fn sum(x: Operand, y: Operand) -> Value
     match (x, y) {
         (Operand::Finite(p), Operand::Finite(q)) => Value::Fraction(sum_parts(p, q)),
         (Operand::Finite(_), Operand::Infinite(t)) => Value::Infinity(t),
-        (Operand::Infinite(s), Operand::Finite(_)) => Value::Infinity(s),
-        (Operand::Infinite(s), Operand::Infinite(t)) => {
-            if s ^ t {
-                Value::NotANumber
-            } else {
-                Value::Infinity(s)
-            }
-        }
+        (Operand::Infinite(s), Operand::Infinite(t)) if s ^ t => Value::NotANumber,
+        (Operand::Infinite(s), _) => Value::Infinity(s),
     }
 }
 
@@ -199,21 +193,17 @@ pub fn is_binary(code: u64) -> bool
 
 // The value of parts, as `slash::parts_of` gives them; zero is the fraction 0/1.
 #[tactic(auto, unfolding(crate::specs::Steps::value_from))]
-fn value_from(s: bool, n: u64, d: u64) -> Value
-    ensures { result ≡ value_from s n d }
+fn value_from(negative: bool, numerator: u64, denominator: u64) -> Value
+    ensures { result ≡ value_from negative numerator denominator }
 {
-    if d == 0 {
-        if n == 0 {
-            Value::NotANumber
-        } else {
-            Value::Infinity(s)
-        }
-    } else {
-        Value::Fraction(Parts {
-            negative: s,
-            numerator: n,
-            denominator: d,
-        })
+    match (numerator, denominator) {
+        (0, 0) => Value::NotANumber,
+        (_, 0) => Value::Infinity(negative),
+        _ => Value::Fraction(Parts {
+            negative,
+            numerator,
+            denominator,
+        }),
     }
 }
 
