@@ -102,7 +102,7 @@ fn is_fraction(v: Value) -> bool
 }
 
 // Two fractions, which most words are, go the short way: one test for both, so that there is one
-// branch.
+// branch. By `if let` on the pair, two floating words took a tenth longer.
 fn compare_values(v: Value, w: Value) -> Order
     requires { Small (operand_of v) × Small (operand_of w) }
     ensures { result ≡ compare_values v w }
