@@ -15,16 +15,16 @@ mod words;
 
 use std::alloc::Global;
 use std::io;
-use std::io::{BufRead, BufReader, BufWriter, Write};
+use std::io::{BufRead, BufReader, BufWriter, ErrorKind, Write};
 
-// Runs the request of a line. A number that can't be read is left out, so that the request is unknown.
+// Runs the request of a line.
 fn run<W: Write>(alloc: Global, out: &mut W, line: &str) -> io::Result<()> {
     let letter = line.bytes().next().unwrap_or(b' ');
     let mut numbers: Vec<u64> = line
         .split(' ')
         .skip(1)
-        .filter_map(|piece| piece.parse().ok())
-        .collect(alloc)?;
+        .map(|piece| piece.parse().map_err(|_| io::Error::from(ErrorKind::InvalidData)))
+        .try_collect(alloc)?;
     requests::run(alloc, out, letter, &mut numbers)
 }
 

@@ -51,7 +51,7 @@ fn show_list<W: Write>(out: &mut W, list: &[u64]) -> io::Result<()> {
 // A list of so many places, each with 1 more than the one before it.
 fn fill(list: &mut Vec<u64>, places: usize, first: u64) -> io::Result<()> {
     list.clear();
-    list.extend((0..places as u64).map(|i| first.wrapping_add(i)))?;
+    list.extend((first..).take(places))?;
     Ok(())
 }
 
