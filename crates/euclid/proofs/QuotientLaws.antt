@@ -139,36 +139,36 @@ module _ {f : Format} {w : ℕ} {p : Parts} (g : WordParts f w p) where
   pub word_few : length (quotients p.numerator p.denominator) ≤ 2 * f.k
   word_few = few f.k p.numerator p.denominator word_small.2
 
-  word_done : done (quotients p.numerator p.denominator) ≡ word_quotients f w
+  pub word_done : done (quotients p.numerator p.denominator) ≡ word_quotients f w
   unfolding word_quotients
   word_done =
       then_done _ (sym (checked_read f w g.checked))
       (ap (λ (y : Pair). done (quotients y.numerator y.denominator)) g.same ∙ ap done (value_quotients_lem (number_of f w).value))
 
-  pub count_done : (n : ℕ) → n ≡ length (quotients p.numerator p.denominator) → done n ≡ count_alone f w
-  unfolding count_alone
-  count_done n e = then_done _ word_done (ap done e)
-
-  pub quotients_done : (list : List ℕ) (o : Outcome ℕ) (after : List ℕ)
-      → (o ≡ count_in list (quotients p.numerator p.denominator)) × (after ≡ stored_in list (quotients p.numerator p.denominator))
-      → (o ≡ quotient_count f w list) × (after ≡ quotients_after (word_quotients f w) list)
-  unfolding quotient_count quotients_after
-  quotients_done list o after s =
-      (then_done _ word_done s.0, s.1 ∙ ap (λ (k : Outcome (List ℕ)). quotients_after k list) word_done)
-
 -- a word that reading stops
-module _ (f : Format) (w : ℕ) {s : Stop} (e : Err s ≡ read_word f w) where
-  word_stop : Err s ≡ word_quotients f w
-  unfolding word_quotients
-  word_stop = then_stop _ e
+pub word_stop : (f : Format) (w : ℕ) {s : Stop} → Err s ≡ read_word f w → Err s ≡ word_quotients f w
+unfolding word_quotients
+word_stop f w e = then_stop _ e
 
-  pub count_stop : Err s ≡ count_alone f w
+-- what the two calls make of the quotients, or of the stop
+module _ (f : Format) (w : ℕ) where
+  pub count_done : {new : List ℕ} → done new ≡ word_quotients f w → {n : ℕ} → n ≡ length new → done n ≡ count_alone f w
   unfolding count_alone
-  count_stop = then_stop _ word_stop
+  count_done d e = then_done _ d (ap done e)
 
-  pub quotients_stop : (list : List ℕ) → (Err s ≡ quotient_count f w list) × (list ≡ quotients_after (word_quotients f w) list)
-  unfolding quotient_count quotients_after
-  quotients_stop list = (then_stop _ word_stop, ap (λ (o : Outcome (List ℕ)). quotients_after o list) word_stop)
+  pub count_stop : {s : Stop} → Err s ≡ word_quotients f w → Err s ≡ count_alone f w
+  unfolding count_alone
+  count_stop e = then_stop _ e
+
+  module _ (list : List ℕ) where
+    pub quotients_done : {new : List ℕ} → done new ≡ word_quotients f w → (o : Outcome ℕ) (after : List ℕ)
+        → (o ≡ count_in list new) × (after ≡ stored_in list new) → (o ≡ quotient_count f w list) × (after ≡ quotients_after (word_quotients f w) list)
+    unfolding quotient_count quotients_after
+    quotients_done d o after s = (then_done _ d s.0, s.1 ∙ ap (λ (k : Outcome (List ℕ)). quotients_after k list) d)
+
+    pub quotients_stop : {s : Stop} → Err s ≡ word_quotients f w → (Err s ≡ quotient_count f w list) × (list ≡ quotients_after (word_quotients f w) list)
+    unfolding quotient_count quotients_after
+    quotients_stop e = (then_stop _ e, ap (λ (o : Outcome (List ℕ)). quotients_after o list) e)
 
 -- At most 2k quotients.
 pub quotients_at_most : (f : Format) (w : ℕ) (new : List ℕ) → word_quotients f w ≡ done new → length new ≤ 2 * f.k

@@ -1,6 +1,7 @@
 // The partial quotients of a word's finite absolute value: their count alone, and they themselves in a
 // lent list. No word's parts take more than 32 bits.
 ghost use Rattle.std.specs.Prelude.{◌≡◌, ◌++◌, ◌≤◌, ltb, length, drop};
+ghost use Rattle.slash.specs.Answers.{done, ◌then◌};
 ghost use Rattle.euclid.specs.Quotients.{count_alone, count_in, stored_in, word_quotients, quotient_count, quotients_after};
 ghost use Rattle.convergents.specs.Convergents.{quotients};
 
@@ -53,44 +54,64 @@ fn store(n: u32, d: u32, list: &mut [u32]) -> usize
     list.len()
 }
 
-// Whether n/d, which has at most so many quotients, has more than there are places. Only where it may,
-// it divides, as `store` does then: `count` has fewer divisions, but two loops that go round as often
-// took less time.
-fn are_more(n: u32, d: u32, most: usize, places: usize) -> bool
-    requires { length (quotients n d) ≤ most }
-    ensures { result ≡ ltb places (length (quotients n d)) }
-{
-    if most <= places {
-        return false;
-    }
-    let (mut u, mut v) = (n, d);
-    for _ in 0..places {
-        if v == 0 {
-            return false;
-        }
-        (u, v) = (v, u % v);
-    }
-    v != 0
+// The parts of a word, which take at most 32 bits each, and how many quotients they have at most.
+#[derive(Clone, Copy)]
+struct WordParts {
+    numerator: u32,
+    denominator: u32,
+    most: usize,
+    ghost few: { length (quotients numerator denominator) ≤ most },
 }
 
-fn list_quotients(n: u32, d: u32, most: usize, list: &mut [u32]) -> Result<u64, Stop>
-    requires { length (quotients n d) ≤ most }
-    ensures counted { result ≡ count_in list.old (quotients n d) }
-    ensures stored { list.new ≡ stored_in list.old (quotients n d) }
-{
-    if are_more(n, d, most, list.len()) {
-        return Err(Stop::plain(Stop::LIST));
+impl WordParts {
+    fn of_word(f: Format, w: u64) -> Result<WordParts, Stop>
+        ensures { (result then λ p. done (quotients p.numerator p.denominator)) ≡ word_quotients f w }
+    {
+        let x = slash::check(f, w)?;
+        let p = slash::parts_of(x.value());
+        Ok(WordParts {
+            numerator: p.numerator as u32,
+            denominator: p.denominator as u32,
+            // No word has more than 2k.
+            most: (2 * f.k) as usize,
+        })
     }
-    Ok(store(n, d, list) as u64)
+
+    // Whether they have more than there are places. Only where they may, it divides, as `store` does
+    // then: `count` has fewer divisions, but two loops that go round as often took less time.
+    fn are_more(self, places: usize) -> bool
+        ensures { result ≡ ltb places (length (quotients self.numerator self.denominator)) }
+    {
+        if self.most <= places {
+            return false;
+        }
+        let (mut u, mut v) = (self.numerator, self.denominator);
+        for _ in 0..places {
+            if v == 0 {
+                return false;
+            }
+            (u, v) = (v, u % v);
+        }
+        v != 0
+    }
+
+    fn list(self, list: &mut [u32]) -> Result<u64, Stop>
+        ensures counted { result ≡ count_in list.old (quotients self.numerator self.denominator) }
+        ensures stored { list.new ≡ stored_in list.old (quotients self.numerator self.denominator) }
+    {
+        if self.are_more(list.len()) {
+            return Err(Stop::plain(Stop::LIST));
+        }
+        Ok(store(self.numerator, self.denominator, list) as u64)
+    }
 }
 
 // How many quotients a word has.
 pub fn quotient_count(f: Format, w: u64) -> Result<u64, Stop>
     ensures { result ≡ count_alone f w }
 {
-    let x = slash::check(f, w)?;
-    let p = slash::parts_of(x.value());
-    Ok(count(p.numerator as u32, p.denominator as u32) as u64)
+    let p = WordParts::of_word(f, w)?;
+    Ok(count(p.numerator, p.denominator) as u64)
 }
 
 // The quotients of a word, first one first, at the start of the list, and their count.
@@ -98,9 +119,6 @@ pub fn quotients(f: Format, w: u64, list: &mut [u32]) -> Result<u64, Stop>
     ensures counted { result ≡ quotient_count f w list.old }
     ensures stored { list.new ≡ quotients_after (word_quotients f w) list.old }
 {
-    let x = slash::check(f, w)?;
-    let p = slash::parts_of(x.value());
-    // No word has more than 2k.
-    let most = (2 * f.k) as usize;
-    list_quotients(p.numerator as u32, p.denominator as u32, most, list)
+    let p = WordParts::of_word(f, w)?;
+    p.list(list)
 }

@@ -1,7 +1,7 @@
 use Rattle.slash.proofs.AnswerLaws.{plain_stop}
 use Rattle.euclid.proofs.QuotientLaws.{enough, too_short}
 use mathlib.Core.Path.{sym, ◌∙◌}
-use Rattle.euclid.proofs.quotient.list_quotients.Goals as goal
+use Rattle.euclid.proofs.quotient.WordParts.list.Goals as goal
 
 pub returns-then-are_more : goal.returns-then-are_more
 returns-then-are_more c = let short = too_short _ _ (sym c.are_more.ensures ∙ c.if-are_more.true) in
