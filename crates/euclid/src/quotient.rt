@@ -7,54 +7,7 @@ ghost use Rattle.convergents.specs.Convergents.{quotients};
 
 use slash::{Format, Stop};
 
-// How many quotients n/d has, by Euclid's algorithm with the nearest rest: where more than half of the
-// divisor is left, the quotient that follows is 1, and one division counts both. The quotients 0 and 1
-// that may come first need none.
-fn count(n: u32, d: u32) -> usize
-    ensures { result ≡ length (quotients n d) }
-{
-    // Below 1 the first quotient is 0, and n is the rest.
-    let (mut u, mut v, mut i) = if n < d { (d, n, 1) } else { (n, d, 0) };
-    // Below 2 the next is 1, and is counted as in the loop.
-    let over = u - v;
-    if over < v {
-        v = over;
-        i += 1;
-    }
-    while v != 0 {
-        let above = u % v;
-        let below = v - above;
-        u = v;
-        if below < above {
-            v = below;
-            i += 2;
-        } else {
-            v = above;
-            i += 1;
-        }
-    }
-    i
-}
-
-// Stores the quotients of n/d, as they are found, at the start of a list that is long enough, and
-// answers their count.
-fn store(n: u32, d: u32, list: &mut [u32]) -> usize
-    requires { length (quotients n d) ≤ length list.old }
-    ensures counted { result ≡ length (quotients n d) }
-    ensures stored { list.new ≡ quotients n d ++ drop (length (quotients n d)) list.old }
-{
-    let (mut u, mut v) = (n, d);
-    for (i, place) in list.iter_mut().enumerate() {
-        if v == 0 {
-            return i;
-        }
-        *place = u / v;
-        (u, v) = (v, u % v);
-    }
-    list.len()
-}
-
-// The parts of a word, which take at most 32 bits each, and how many quotients they have at most.
+// The parts n and d of a word, and how many quotients n/d has at most.
 #[derive(Clone, Copy)]
 struct WordParts {
     numerator: u32,
@@ -77,7 +30,55 @@ impl WordParts {
         })
     }
 
-    // Whether they have more than there are places. Only where they may, it divides, as `store` does
+    // How many quotients n/d has, by Euclid's algorithm with the nearest rest: where more than half of
+    // the divisor is left, the quotient that follows is 1, and one division counts both. The quotients 0
+    // and 1 that may come first need none.
+    fn count(self) -> usize
+        ensures { result ≡ length (quotients self.numerator self.denominator) }
+    {
+        let (n, d) = (self.numerator, self.denominator);
+        // Below 1 the first quotient is 0, and n is the rest.
+        let (mut u, mut v, mut i) = if n < d { (d, n, 1) } else { (n, d, 0) };
+        // Below 2 the next is 1, and is counted as in the loop.
+        let over = u - v;
+        if over < v {
+            v = over;
+            i += 1;
+        }
+        while v != 0 {
+            let above = u % v;
+            let below = v - above;
+            u = v;
+            if below < above {
+                v = below;
+                i += 2;
+            } else {
+                v = above;
+                i += 1;
+            }
+        }
+        i
+    }
+
+    // Stores the quotients, as they are found, at the start of a list that is long enough, and answers
+    // their count.
+    fn store(self, list: &mut [u32]) -> usize
+        requires { length (quotients self.numerator self.denominator) ≤ length list.old }
+        ensures counted { result ≡ length (quotients self.numerator self.denominator) }
+        ensures stored { list.new ≡ quotients self.numerator self.denominator ++ drop (length (quotients self.numerator self.denominator)) list.old }
+    {
+        let (mut u, mut v) = (self.numerator, self.denominator);
+        for (i, place) in list.iter_mut().enumerate() {
+            if v == 0 {
+                return i;
+            }
+            *place = u / v;
+            (u, v) = (v, u % v);
+        }
+        list.len()
+    }
+
+    // Whether there are more quotients than places. Only where there may be, it divides, as `store` does
     // then: `count` has fewer divisions, but two loops that go round as often took less time.
     fn are_more(self, places: usize) -> bool
         ensures { result ≡ ltb places (length (quotients self.numerator self.denominator)) }
@@ -95,6 +96,7 @@ impl WordParts {
         v != 0
     }
 
+    // The quotients in a list, if it is long enough.
     fn list(self, list: &mut [u32]) -> Result<u64, Stop>
         ensures counted { result ≡ count_in list.old (quotients self.numerator self.denominator) }
         ensures stored { list.new ≡ stored_in list.old (quotients self.numerator self.denominator) }
@@ -102,7 +104,7 @@ impl WordParts {
         if self.are_more(list.len()) {
             return Err(Stop::plain(Stop::LIST));
         }
-        Ok(store(self.numerator, self.denominator, list) as u64)
+        Ok(self.store(list) as u64)
     }
 }
 
@@ -111,7 +113,7 @@ pub fn quotient_count(f: Format, w: u64) -> Result<u64, Stop>
     ensures { result ≡ count_alone f w }
 {
     let p = WordParts::of_word(f, w)?;
-    Ok(count(p.numerator, p.denominator) as u64)
+    Ok(p.count() as u64)
 }
 
 // The quotients of a word, first one first, at the start of the list, and their count.

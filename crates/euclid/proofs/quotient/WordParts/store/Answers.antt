@@ -2,7 +2,7 @@ use native.Mathlib.Omega.{arith}
 use mathlib.Core.Path.{◌∙◌}
 use Rattle.euclid.proofs.QuotientLaws.{store_next, store_end}
 use Rattle.std.proofs.lemmas.List.{set-get_or}
-use Rattle.euclid.proofs.quotient.store.Goals as goal
+use Rattle.euclid.proofs.quotient.WordParts.store.Goals as goal
 
 pub returns-then-v-eq0 : goal.returns-then-v-eq0
 returns-then-v-eq0 c =
