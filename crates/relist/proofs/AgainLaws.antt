@@ -7,15 +7,15 @@ use native.Mathlib.Omega.{arith}
 use lib.ListN.{length, take, drop, length-append}
 use lib.Seq.{take_at}
 use borrow.Author.Tests.{le-leb}
-use Rattle.slash.specs.Answers.{Outcome, stop, done, ◌then◌}
+use Rattle.std.specs.Prelude.{Ok, Err}
+use Rattle.slash.specs.Answers.{Outcome, done, ◌then◌}
 use Rattle.slash.specs.declared.answer.Stop.{Stop}
 use Rattle.slash.proofs.AnswerLaws.{done_inj, no_stop}
 use Rattle.text.specs.Stores.{at_start, length_of, list_after}
 use Rattle.loading.specs.Prints.{printed, IsListing, print_outcome}
 use Rattle.loading.specs.Loads.{Listing, load}
-use Rattle.loading.specs.Fills.{where_fits, load_into, loaded_outcome, count_of, words_after}
+use Rattle.loading.specs.Fills.{where_fits, load_into, count_of, words_after}
 use Rattle.loading.specs.declared.load.Counted.{Counted}
-use Rattle.loading.specs.declared.load.Loaded.{Loaded}
 use Rattle.loading.proofs.LoadLaws.{load_only}
 use Rattle.loading.proofs.FillLaws.{count_stop}
 use Rattle.loading.proofs.PrintLaws.{print_listing}
@@ -26,8 +26,8 @@ unfolding printed_again
 again_same text again h = go (load text) refl h
   where
     go : (o : Outcome Listing) → load text ≡ o → (o then λ l. done (printed l.words l.total)) ≡ done again → again ≡ text
-    go (stop number place) e g = absurd (no_stop g)
-    go (done l) e g = sym (done_inj g) ∙ sym (load_only text l e).1
+    go (Err s) e g = absurd (no_stop g)
+    go (Ok l) e g = sym (done_inj g) ∙ sym (load_only text l e).1
 
 -- lists of 65,536 places are never too short
 fits_all : (text : List ℕ) → load_into text 65536 65536 ≡ load text
@@ -35,27 +35,25 @@ unfolding load_into where_fits
 fits_all text = go (load text) refl
   where
     go : (o : Outcome Listing) → load text ≡ o → (o then where_fits 65536 65536) ≡ o
-    go (stop number place) e = refl
-    go (done l) e = rw (le-leb (length l.words) 65536 (load_only text l e).0.few) refl
+    go (Err s) e = refl
+    go (Ok l) e = rw (le-leb (length l.words) 65536 (load_only text l e).0.few) refl
 
-module _ (text o : List ℕ) (p q : ℕ) (pe : p ≡ 65536) (qe : q ≡ 65536) (r : Loaded) (h : loaded_outcome r ≡ count_of (load_into text p q)) where
+module _ (text o : List ℕ) (p q : ℕ) (pe : p ≡ 65536) (qe : q ≡ 65536) {r : Outcome Counted} (h : r ≡ count_of (load_into text p q)) where
   into : load_into text p q ≡ load text
   into = ap (λ (i : ℕ). load_into text i q) pe ∙ ap (load_into text 65536) qe ∙ fits_all text
 
-  loaded : loaded_outcome r ≡ count_of (load text)
+  loaded : r ≡ count_of (load text)
   loaded = h ∙ ap count_of into
 
-  pub again_stopped : (s : Stop) → r ≡ Loaded.Stopped s
-      → (stop s.number s.place ≡ length_of (printed_again text)) × ((o ≡ list_after (printed_again text) o) × SameAgain text)
+  pub again_stopped : {s : Stop} → r ≡ Err s
+      → (Err s ≡ length_of (printed_again text)) × ((o ≡ list_after (printed_again text) o) × SameAgain text)
   unfolding printed_again length_of list_after
-  again_stopped s e =
-      let stopped : load text ≡ stop s.number s.place = count_stop (load text) _ _ (sym (ap loaded_outcome e) ∙ loaded) in
-      let m : printed_again text ≡ stop s.number s.place =
-      ap (λ (y : Outcome Listing). y then λ l. done (printed l.words l.total)) stopped
-      in
+  again_stopped {s} e =
+      let stopped : Err s ≡ load text = count_stop (load text) (sym e ∙ loaded) in
+      let m : printed_again text ≡ Err s = ap (λ (y : Outcome Listing). y then λ l. done (printed l.words l.total)) (sym stopped) in
       (ap length_of (sym m), (ap (λ (y : Outcome (List ℕ)). list_after y o) (sym m), again_same text))
 
-  module _ (c : Counted) (e : r ≡ Loaded.Done c) (old new : List ℕ) (we : new ≡ words_after (load_into text p q) old) where
+  module _ (c : Counted) (e : r ≡ Ok c) (old new : List ℕ) (we : new ≡ words_after (load_into text p q) old) where
     record Words : Type 0 where
       words : List ℕ
       last : ℕ
@@ -67,11 +65,11 @@ module _ (text o : List ℕ) (p q : ℕ) (pe : p ≡ 65536) (qe : q ≡ 65536) (
 
     given : Words
     unfolding count_of words_after list_after
-    given = go (load text) refl (sym (ap loaded_outcome e) ∙ loaded)
+    given = go (load text) refl (sym e ∙ loaded)
       where
         go : (x : Outcome Listing) → load text ≡ x → done c ≡ count_of x → Words
-        go (stop number place) i g = absurd (no_stop (sym g))
-        go (done l) i g =
+        go (Err s) i g = absurd (no_stop (sym g))
+        go (Ok l) i g =
             let d : c ≡ record { breaths = length l.words; total = l.total } = done_inj g in
             let n : c.breaths ≡ length l.words = ap (λ (x : Counted). x.breaths) d in
             let list : new ≡ at_start l.words old = we ∙ ap (λ (x : Outcome Listing). words_after x old) (into ∙ i) in
@@ -109,8 +107,8 @@ unfolding length_of list_after
 again_within text o o' k e f = go (printed_again text) refl
   where
     go : (x : Outcome (List ℕ)) → printed_again text ≡ x → k ≤ length o'
-    go (stop number place) i = absurd (no_stop (sym (e ∙ ap length_of i)))
-    go (done t) i =
+    go (Err s) i = absurd (no_stop (sym (e ∙ ap length_of i)))
+    go (Ok t) i =
         let n : k ≡ length t = done_inj (e ∙ ap length_of i) in
         let l : o' ≡ at_start t o = f ∙ ap (λ (x : Outcome (List ℕ)). list_after x o) i in
         omega (arith, n, ap length l, length-append t (drop (length t) o))
