@@ -1,6 +1,6 @@
 -- The records of some bytes, one after the other, and the answers of `import_records`. Assumes nothing.
--- `record_at`: record i begins at byte 12 times i. `import_bytes`, `import_length`: stops 16 and 3. `import_stopped`, `import_done`: the records'
--- stop, or their words and demand 3.
+-- `record_at`: record i begins at byte 12 times i. `records_stop`, `records_good`, `records_end`: the check, a record at a time. `import_bytes`,
+-- `import_length`: stops 16 and 3. `import_stopped`, `import_done`: the records' stop, or their words and demand 3.
 use mathlib.Core.Path.{◌≡◌, refl, sym, ap, ◌∙◌}
 use mathlib.Core.List.{List, ◌∷◌, ◌++◌, map}
 use Prim.Native.Nat.{ℕ, zero, suc, ◌+◌, ◌-◌, ◌*◌, ◌/◌, ◌%◌, ◌≤◌, ◌<◌}
@@ -48,10 +48,6 @@ from_is s i = take_all (length s - 12 * i) (drop (12 * i) s) (omega (arith, leng
 
 pub record_at : (n : ℕ) (s : List ℕ) (i : ℕ) → i < n → drop i (first_records n s) ≡ record_of (bytes_from s i) ∷ drop (i + 1) (first_records n s)
 record_at n s i h = rw (add-one, from_is s i) (record_next n s i h)
-
--- a whole record is left
-pub record_left : (n : ℕ) (s : List ℕ) (i : ℕ) → 12 * n ≡ length s → i < n → 12 ≤ length (bytes_from s i)
-record_left n s i e h = omega (arith, ap length (from_is s i), length-drop (12 * i) s)
 
 -- the same from the front: a whole record, and the bytes behind it
 module _ (x rest : List ℕ) (long : length x ≡ 12) where
@@ -105,9 +101,6 @@ module _ (bytes words : List ℕ) where
     import_length n = rw (eq-eqb _ _ whole, many, ne_eqb _ _ n) refl
 
     module _ (equal : length bytes / 12 ≡ length words) where
-      pub import_counts : 12 * length words ≡ length bytes
-      import_counts = omega arith
-
       import_all : each record_word 0 (records_in bytes) ≡ import_each bytes words
       unfolding import_each
       import_all = rw (eq-eqb _ _ whole, eq-eqb _ _ (many ∙ equal)) refl
