@@ -12,7 +12,8 @@ ghost use Rattle.unary.specs.Operations.{over_one, exact_parts, exact_zero, exac
 use crate::sign::{NEGATE, is_sign_touch, touch_sign};
 use slash::{Format, Number, Parts, Stop, Value};
 
-// The codes of the operations, behind those that touch only the sign.
+// The codes of the operations, behind those that touch only the sign. They are numbers and no enum:
+// `unary` and `unary_each` take any, with stop 2 for another.
 const RECIPROCAL: u64 = 3;
 
 const FLOOR: u64 = 4;
