@@ -4,6 +4,7 @@
 
 #![tactic(auto)]
 
+mod line;
 mod operations;
 mod places;
 mod records;
@@ -13,27 +14,36 @@ mod single;
 mod ticks;
 mod words;
 
-use std::alloc::Global;
+use line::Line;
 use std::io;
-use std::io::{BufRead, BufReader, BufWriter, ErrorKind, Write};
+use std::io::{BufRead, BufReader, LineWriter, Write};
 
-// Runs the request of a line.
-fn run<W: Write>(alloc: Global, out: &mut W, line: &str) -> io::Result<()> {
-    let letter = line.bytes().next().unwrap_or(b' ');
-    let mut numbers: Vec<u64> = line
-        .split(' ')
-        .skip(1)
-        .map(|piece| piece.parse().map_err(|_| io::Error::from(ErrorKind::InvalidData)))
-        .try_collect(alloc)?;
-    requests::run(alloc, out, letter, &mut numbers)
-}
-
-fn main(rt: HostRuntime) -> io::Result<()> {
+// Each answer is written as soon as its line is read; what stands behind the last line feed is no
+// request.
+fn run(rt: &HostRuntime) -> io::Result<()> {
     let alloc = rt.alloc();
-    let mut out = BufWriter::new(alloc, io::writer(&rt))?;
-    for line in BufReader::new(alloc, rt.reader())?.lines(alloc) {
-        run(alloc, &mut out, &line?)?;
+    let mut from = BufReader::new(alloc, rt.reader())?;
+    let mut out = LineWriter::new(alloc, io::writer(rt))?;
+    let mut bytes = Vec::new(alloc);
+    let mut line = Line::new();
+    for _ in 0..u64::MAX {
+        bytes.clear();
+        from.read_until(b'\n', &mut bytes)?;
+        let Some((b'\n', request)) = bytes.split_last() else {
+            break;
+        };
+        for &b in request {
+            line.take(b);
+        }
+        line.end();
+        requests::run(alloc, &mut out, &line)?;
         out.write_all(b"\n")?;
+        line.clear();
     }
     out.flush()
+}
+
+// Where a read or a write fails, the run ends there.
+fn main(rt: HostRuntime) {
+    let _ = run(&rt);
 }

@@ -1,5 +1,6 @@
-// Requests on vectors: lengths, then the words of each vector. The list that is lent is what is left,
-// so that its length isn't needed.
+// Requests on vectors: lengths, at most 16 each, then the words of each vector, the result's last.
+ghost use Rattle.std.specs.Prelude.{◌≤◌, ◌<◌, ◌^◌};
+
 use crate::show::{Word, done};
 use slash::{Format, Stop};
 use std::io;
@@ -23,10 +24,11 @@ pub(crate) fn show_words<W: Write>(out: &mut W, words: &[u64]) -> io::Result<()>
     Ok(())
 }
 
-// The first words, so many of them, and those behind.
-pub(crate) fn parted(words: &mut [u64], count: u64) -> (&mut [u64], &mut [u64]) {
-    let at = words.len().min(count as usize);
-    words.split_at_mut(at)
+// A length, cut to the most.
+pub(crate) fn at_most(most: usize, length: u64) -> usize
+    ensures { result ≤ most }
+{
+    (most as u64).min(length) as usize
 }
 
 // x KIND K CODE LEFT RIGHT OUT WORDS
@@ -34,29 +36,43 @@ pub(crate) fn binary_each<W: Write>(
     out: &mut W,
     f: Format,
     code: u64,
-    left: u64,
-    right: u64,
-    words: &mut [u64],
+    lengths: [u64; 3],
+    all: &[u64; 256],
 ) -> io::Result<()> {
-    let (lefts, others) = parted(words, left);
-    let (rights, lent) = parted(others, right);
+    let [left, right, places] = lengths;
+    let middle = 7 + at_most(16, left);
+    let end = middle + at_most(16, right);
+    let n = at_most(16, places);
+    let mut result = [0; 16];
+    let lent = &mut result[..n];
+    lent.copy_from_slice(&all[end..end + n]);
+    let lefts = &all[7..middle];
+    let rights = &all[middle..end];
     let checked = vectors::check_pairs(f, lefts, rights);
     let stored = arithmetic::binary_each(f, code, lefts, rights, lent);
     show_stored(out, checked, stored, lent)
 }
 
-// What an operation on one vector comes to: the vector, so many of the words, and the list behind it
-// are handed to it.
+// What an operation on one vector comes to, which stands among the numbers from a place on, with the
+// words of the list that is lent behind it.
 fn each<W: Write, F: FnOnce(&[u64], &mut [u64]) -> Result<(), Stop>>(
     out: &mut W,
     f: Format,
-    operand: u64,
-    words: &mut [u64],
+    from: usize,
+    lengths: [u64; 2],
+    all: &[u64; 256],
     operation: F,
 ) -> io::Result<()>
-    requires { F.IsAlwaysCallable operation }
+    requires from { from ≤ 7 }
+    requires callable { F.IsAlwaysCallable operation }
 {
-    let (operands, lent) = parted(words, operand);
+    let [operand, places] = lengths;
+    let end = from + at_most(16, operand);
+    let n = at_most(16, places);
+    let mut result = [0; 16];
+    let lent = &mut result[..n];
+    lent.copy_from_slice(&all[end..end + n]);
+    let operands = &all[from..end];
     let checked = vectors::check_words(f, operands);
     let stored = operation(operands, lent);
     show_stored(out, checked, stored, lent)
@@ -67,14 +83,15 @@ pub(crate) fn unary_each<W: Write>(
     out: &mut W,
     f: Format,
     code: u64,
-    operand: u64,
-    words: &mut [u64],
+    lengths: [u64; 2],
+    all: &[u64; 256],
 ) -> io::Result<()> {
     each(
         out,
         f,
-        operand,
-        words,
+        6,
+        lengths,
+        all,
         |from, to| unary::unary_each(f, code, from, to),
     )
 }
@@ -84,14 +101,15 @@ pub(crate) fn convert_each<W: Write>(
     out: &mut W,
     f: Format,
     to: Format,
-    operand: u64,
-    words: &mut [u64],
+    lengths: [u64; 2],
+    all: &[u64; 256],
 ) -> io::Result<()> {
     each(
         out,
         f,
-        operand,
-        words,
+        7,
+        lengths,
+        all,
         |from, lent| conversion::convert_each(f, to, from, lent),
     )
 }
@@ -101,23 +119,11 @@ pub(crate) fn rearranged_each<W: Write>(
     out: &mut W,
     f: Format,
     way: u64,
-    operand: u64,
-    words: &mut [u64],
+    lengths: [u64; 2],
+    all: &[u64; 256],
 ) -> io::Result<()> {
-    match way {
-        1 => each(
-            out,
-            f,
-            operand,
-            words,
-            |from, to| twisting::twist_each(f, from, to),
-        ),
-        _ => each(
-            out,
-            f,
-            operand,
-            words,
-            |from, to| twisting::untwist_each(f, from, to),
-        ),
-    }
+    each(out, f, 6, lengths, all, |from, to| match way {
+        1 => twisting::twist_each(f, from, to),
+        _ => twisting::untwist_each(f, from, to),
+    })
 }

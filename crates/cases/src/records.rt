@@ -1,6 +1,6 @@
-// Requests on records: how many bytes there are, and how many places, then the bytes, and the words
-// at the places.
-use crate::places::{parted, show_words};
+// Requests on records: how many bytes there are, at most 192, and how many places, at most 16, then the
+// bytes, and the words at the places.
+use crate::places::{at_most, show_words};
 use crate::show::done;
 use std::alloc::Global;
 use std::io;
@@ -10,11 +10,16 @@ use std::io::Write;
 pub(crate) fn imported<W: Write>(
     alloc: Global,
     out: &mut W,
-    length: u64,
-    numbers: &mut [u64],
+    lengths: [u64; 2],
+    all: &[u64; 256],
 ) -> io::Result<()> {
-    let (bytes, lent) = parted(numbers, length);
-    let bytes: Vec<u8> = bytes.iter().map(|n| (*n % 256) as u8).collect(alloc)?;
+    let [length, places] = lengths;
+    let end = 3 + at_most(192, length);
+    let n = at_most(16, places);
+    let bytes: Vec<u8> = all[3..end].iter().map(|b| (*b % 256) as u8).collect(alloc)?;
+    let mut result = [0; 16];
+    let lent = &mut result[..n];
+    lent.copy_from_slice(&all[end..end + n]);
     let told = importing::import_records(&bytes, lent);
     write!(out, "{}", done(told))?;
     show_words(out, lent)

@@ -1,4 +1,5 @@
 // The requests by their letters.
+use crate::line::Line;
 use crate::{operations, places, records, single, ticks, words};
 use breaths::Sums;
 use slash::Format;
@@ -6,87 +7,63 @@ use std::alloc::Global;
 use std::io;
 use std::io::Write;
 
-fn unknown<W: Write>(out: &mut W) -> io::Result<()> {
-    write!(out, "unknown")
-}
-
-// Runs the request that a letter and the numbers behind it are, and writes its answer.
-pub(crate) fn run<W: Write>(
-    alloc: Global,
-    out: &mut W,
-    letter: u8,
-    numbers: &mut [u64],
-) -> io::Result<()> {
-    match (letter, numbers) {
-        (b'i', [length, _, rest @ ..]) => records::imported(alloc, out, *length, rest),
-        (b'h', [ticks, onset, peak, next]) => ticks::breath(out, *ticks, *onset, *peak, *next),
-        (b'a', [ticks, inspiration, whole, onset, peak, next]) => {
+// A request on words. The first number is the letter's place and says nothing.
+fn run_words<W: Write>(out: &mut W, line: &Line) -> io::Result<()> {
+    let [_, kind, k, a, b, c, d, e] = line.numbers;
+    let f = Format { kind, k };
+    let to = Format { kind: a, k: b };
+    match line.letter {
+        b'f' => words::format(out, kind, k),
+        b'r' => words::read(out, f, a),
+        b'w' => words::write(out, f, words::value(a, b == 1, c, d), e == 1),
+        b'n' => words::round(out, f, a, b),
+        b'b' => operations::binary(out, f, a, b, c),
+        b'B' => operations::binary_all(out, f, a, b),
+        b'o' => operations::compare(out, f, a, b),
+        b'O' => operations::compare_all(out, f, a),
+        b'v' => operations::convert(out, f, to, c),
+        b'V' => operations::convert_all(out, f, to),
+        b'u' => single::operation(out, f, a, b),
+        b'U' => single::operation_all(out, f, a),
+        b'g' => single::gcd(out, f, a),
+        b'G' => single::gcd_all(out, f),
+        b'q' => single::quotients(out, f, a, b),
+        b'c' => single::quotient_count(out, f, a),
+        b'C' => single::quotient_count_all(out, f),
+        b't' => single::rearranged(out, f, a, b),
+        b'T' => single::rearranged_all(out, f, a),
+        b'h' => ticks::breath(out, kind, k, a, b),
+        b'a' => {
             let sums = Sums {
-                inspiration: *inspiration,
-                whole: *whole,
+                inspiration: k,
+                whole: a,
             };
-            ticks::added(out, *ticks, sums, *onset, *peak, *next)
+            ticks::added(out, kind, sums, b, c, d)
         }
-        (b'e' | b'x'..=b'z', [kind, k, rest @ ..]) => run_vectors(
-            out,
-            letter,
-            Format { kind: *kind, k: *k },
-            rest,
-        ),
-        (_, [kind, k, rest @ ..]) => run_words(out, letter, Format { kind: *kind, k: *k }, rest),
-        _ => unknown(out),
+        _ => write!(out, "unknown"),
     }
 }
 
-// A request on words of a format.
-fn run_words<W: Write>(out: &mut W, letter: u8, f: Format, numbers: &[u64]) -> io::Result<()> {
-    match (letter, numbers) {
-        (b'f', &[]) => words::format(out, f.kind, f.k),
-        (b'r', &[w]) => words::read(out, f, w),
-        (b'w', &[class, sign, n, d, mark]) => words::write(
-            out,
-            f,
-            words::value(class, sign == 1, n, d),
-            mark == 1,
-        ),
-        (b'n', &[n, d]) => words::round(out, f, n, d),
-        (b'b', &[code, left, right]) => operations::binary(out, f, code, left, right),
-        (b'B', &[code, left]) => operations::binary_all(out, f, code, left),
-        (b'o', &[left, right]) => operations::compare(out, f, left, right),
-        (b'O', &[left]) => operations::compare_all(out, f, left),
-        (b'v', &[kind, k, w]) => operations::convert(out, f, Format { kind, k }, w),
-        (b'V', &[kind, k]) => operations::convert_all(out, f, Format { kind, k }),
-        (b'u', &[code, w]) => single::operation(out, f, code, w),
-        (b'U', &[code]) => single::operation_all(out, f, code),
-        (b'g', &[w]) => single::gcd(out, f, w),
-        (b'G', &[]) => single::gcd_all(out, f),
-        (b'q', &[length, w]) => single::quotients(out, f, length, w),
-        (b'c', &[w]) => single::quotient_count(out, f, w),
-        (b'C', &[]) => single::quotient_count_all(out, f),
-        (b't', &[way, w]) => single::rearranged(out, f, way, w),
-        (b'T', &[way]) => single::rearranged_all(out, f, way),
-        _ => unknown(out),
+// A request on vectors, whose words, or bytes, are in the list of all numbers.
+fn run_vectors<W: Write>(alloc: Global, out: &mut W, line: &Line) -> io::Result<()> {
+    let [_, kind, k, a, b, c, d, _] = line.numbers;
+    let f = Format { kind, k };
+    let to = Format { kind: a, k: b };
+    let all = &line.all;
+    match line.letter {
+        b'x' => places::binary_each(out, f, a, [b, c, d], all),
+        b'y' => places::unary_each(out, f, a, [b, c], all),
+        b'z' => places::convert_each(out, f, to, [c, d], all),
+        b'e' => places::rearranged_each(out, f, a, [b, c], all),
+        b'i' => records::imported(alloc, out, [kind, k], all),
+        _ => write!(out, "unknown"),
     }
 }
 
-// A request on vectors of a format.
-fn run_vectors<W: Write>(
-    out: &mut W,
-    letter: u8,
-    f: Format,
-    numbers: &mut [u64],
-) -> io::Result<()> {
-    match (letter, numbers) {
-        (b'x', [code, left, right, _, rest @ ..]) => {
-            places::binary_each(out, f, *code, *left, *right, rest)
-        }
-        (b'y', [code, operand, _, rest @ ..]) => places::unary_each(out, f, *code, *operand, rest),
-        (b'z', [kind, k, operand, _, rest @ ..]) => {
-            places::convert_each(out, f, Format { kind: *kind, k: *k }, *operand, rest)
-        }
-        (b'e', [way, operand, _, rest @ ..]) => places::rearranged_each(
-            out, f, *way, *operand, rest,
-        ),
-        _ => unknown(out),
+// Runs the request of a line and writes its answer.
+pub(crate) fn run<W: Write>(alloc: Global, out: &mut W, line: &Line) -> io::Result<()> {
+    match line.letter {
+        b'e' | b'i' | b'x'.. => run_vectors(alloc, out, line),
+        _ => run_words(out, line),
     }
 }
