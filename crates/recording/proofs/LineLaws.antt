@@ -2,7 +2,7 @@
 -- `line_words`: a line is endless (9, of both kinds) where over 32 bytes stand before its line feed, or there is none, in the papers' words. `line_sound`: a
 -- breath's line uses from 1 to 33 of the bytes. `ended_line`, `ready_line`: what follows a line feed, or 33 bytes, doesn't change the line.
 use mathlib.Core.Path.{◌≡◌, refl, sym, ap, ◌∙◌, subst}
-use mathlib.Core.Bool.{Bool, true, false, ◌&&◌, ◌||◌, and-false, or-true, false≢true}
+use mathlib.Core.Bool.{Bool, true, false, not, true≢false, ◌&&◌, ◌||◌, and-false, or-true, or-false, false≢true}
 use mathlib.Core.Logic.{◌⊎◌, inl, inr}
 use mathlib.Core.List.{List, [], ◌∷◌, ◌++◌, append_assoc, append-nil}
 use Prim.Native.Nat.{ℕ, suc, ◌+◌, ◌-◌, ◌*◌, ◌^◌, ◌≤◌, ◌<◌, min}
@@ -13,8 +13,9 @@ use native.Mathlib.Decide.{dec_le, ℕ_discrete}
 use lib.Dec.{eqb, leb, ltb}
 use lib.ListN.{length, get_or, take, drop, length-append, length-take}
 use lib.Seq.{take-append-le, take-append_seam, take-take, split_at, take-suc, take_all}
-use borrow.Author.Tests.{eq-eqb, ne_eqb, le-leb, lt-leb, le-ltb, lt-ltb, leb-true, leb-false}
-use Rattle.std.specs.Prelude.{Option, Some, None, Result, Ok, Err, IsErr, IsErrAnd}
+use borrow.Author.Tests.{not-true, not-false, eq-eqb, ne_eqb, eqb-true, eqb-false, le-leb, lt-leb, le-ltb, lt-ltb, leb-true, leb-false}
+use Rattle.std.specs.Prelude.{Option, Some, None, Result, Ok, Err, IsErr, IsErrAnd, OkIff}
+use Rattle.std.specs.Result.{result_ok}
 use Rattle.std.specs.Char.{is_ascii_digit}
 use Rattle.std.specs.Option.{ok_or}
 use Rattle.std.specs.Prelude.{if◌then◌else◌}
@@ -24,7 +25,7 @@ use Rattle.text.specs.Scan.{length_before, is_digit, parted}
 use Rattle.text.proofs.ScanLaws.{before_le, before_take, before_taken, before_far, before_append}
 use Rattle.text.proofs.PartLaws.{behind, parted_none, parted_some, parted_at}
 use Rattle.recording.specs.Lines.{digits_from, read_tick, from_start, from_ticks, from_fields, read_line}
-use Rattle.recording.specs.Steps.{LeadingDigits}
+use Rattle.recording.specs.Steps.{LeadingDigits, tick_of, is_begun}
 use Rattle.breaths.specs.declared.breath.Breath.{Breath}
 use Rattle.recording.specs.declared.line.Entry.{Entry}
 
@@ -126,10 +127,22 @@ module _ {bs : List ℕ} {v i : ℕ} (d : Leading bs v i) where
               ∙ digit_more v x xs w.0 w.1;
         })
 
--- the digits alone, where their number is a tick mark
-pub leading_tick : {bs : List ℕ} {v k : ℕ} (l : LeadingDigits bs v k) → v ≤ 4294967295 → digits_from 0 (take k bs) ≡ Some v
-unfolding digits_from
-leading_tick {bs} {v} {k} l h = ap (digits_from 0) (sym (append-nil (take k bs))) ∙ l.goes [] ∙ rw (le-leb _ _ h) refl
+-- the number of some digits, as a tick mark
+pub tick_made : {E : Type 0} (r : Result ℕ E) (v : ℕ) → OkIff r (v < 4294967296) v → result_ok r ≡ tick_of v
+unfolding tick_of
+tick_made {E} r v w = go r w
+  where
+    go : (q : Result ℕ E) → OkIff q (v < 4294967296) v → result_ok q ≡ (if leb v 4294967295 then Some v else None)
+    go (Ok t) h = rw (le-leb v 4294967295 (omega (arith, h.0)), h.1) refl
+    go (Err x) h = rw (lt-leb v 4294967295 (omega (arith, h))) refl
+
+pub tick_small : {v : ℕ} → v ≤ 4294967295 → tick_of v ≡ Some v
+unfolding tick_of
+tick_small h = rw (le-leb _ _ h) refl
+
+pub leading_tick : {bs : List ℕ} {v k : ℕ} (l : LeadingDigits bs v k) → digits_from 0 (take k bs) ≡ tick_of v
+unfolding digits_from tick_of
+leading_tick {bs} {v} {k} l = ap (digits_from 0) (sym (append-nil (take k bs))) ∙ l.goes []
 
 module _ {ds : List ℕ} {v k : ℕ} (l : LeadingDigits ds v k) where
   pub digits_wrong : k < length ds → None ≡ digits_from 0 ds
@@ -146,15 +159,8 @@ module _ {ds : List ℕ} {v k : ℕ} (l : LeadingDigits ds v k) where
       same true = refl
       same false = refl
 
-  module _ (h : length ds ≤ k) where
-    all : take k ds ≡ ds
-    all = take_all k ds h
-
-    pub digits_above : 4294967295 < v → None ≡ digits_from 0 ds
-    digits_above o = sym (ap (digits_from 0) (sym (append-nil ds) ∙ ap (λ (t : List ℕ). t ++ []) (sym all)) ∙ l.goes [] ∙ rw (lt-leb _ _ o) refl)
-
-    pub digits_tick : v ≤ 4294967295 → Some v ≡ digits_from 0 ds
-    digits_tick s = sym (leading_tick l s) ∙ ap (digits_from 0) all
+  pub digits_tick : length ds ≤ k → tick_of v ≡ digits_from 0 ds
+  digits_tick h = sym (leading_tick l) ∙ ap (digits_from 0) (take_all k ds h)
 
 -- ---- a tick mark
 
@@ -185,6 +191,41 @@ module _ (f : List ℕ) where
       go (x ∷ y ∷ ys) h (inl n) = rw (ne_eqb x 48 n) refl
       go (x ∷ []) h (inr s) = rw (and-false (eqb x 48)) refl
       go (x ∷ y ∷ ys) h (inr s) = absurd (omega arith)
+
+  -- the answers of `is_begun`
+  pub begun_empty : length f < 1 → false ≡ is_begun f
+  unfolding is_begun
+  begun_empty h = go f h
+    where
+      go : (g : List ℕ) → length g < 1 → false ≡ is_begun g
+      go [] l = refl
+      go (x ∷ xs) l = absurd (omega arith)
+
+  pub begun_some : 1 ≤ length f → (not (eqb (get_or f 0 0) 48) || eqb (length f) 1) ≡ is_begun f
+  unfolding is_begun
+  begun_some h = go f h
+    where
+      go : (g : List ℕ) → 1 ≤ length g → (not (eqb (get_or g 0 0) 48) || eqb (length g) 1) ≡ is_begun g
+      go [] h = absurd (omega arith)
+      go (x ∷ xs) h = refl
+
+-- what it tells
+pub tick_not_begun : (f : List ℕ) → is_begun f ≡ false → None ≡ read_tick f
+unfolding is_begun
+tick_not_begun [] h = tick_empty [] refl
+tick_not_begun (b ∷ bs) h =
+    let w = or_parts (not (eqb b 48)) (eqb (length (b ∷ bs)) 1) h in
+    let more : length (b ∷ bs) ≡ 1 → ⊥ = eqb-false (length (b ∷ bs)) 1 w.1 in
+    tick_leading (b ∷ bs) (eqb-true b 48 (not-false _ w.0)) (omega arith)
+
+pub tick_begun : (f : List ℕ) → is_begun f ≡ true → digits_from 0 f ≡ read_tick f
+unfolding is_begun read_tick
+tick_begun [] h = absurd (true≢false (sym h))
+tick_begun (b ∷ []) h = rw (and-false (eqb b 48)) refl
+tick_begun (b ∷ c ∷ cs) h =
+    let more : length (b ∷ c ∷ cs) ≡ 1 → ⊥ = λ e. omega arith in
+    let other : eqb (length (b ∷ c ∷ cs)) 1 ≡ false = ne_eqb _ _ more in
+    rw (not-true _ (sym (or-false (not (eqb b 48))) ∙ ap (λ (t : Bool). not (eqb b 48) || t) (sym other) ∙ h)) refl
 
 -- ---- three tick marks
 

@@ -3,50 +3,45 @@
 -- numbers. `tick_at`, `tick_ends`: one tick mark, and the byte that ends it.
 use mathlib.Core.Path.{◌≡◌, refl, sym, ap, ◌∙◌, subst}
 use mathlib.Core.Bool.{Bool, true, false, ◌&&◌}
-use mathlib.Core.Logic.{◌⊎◌, inl, inr, ⊎_elim}
 use mathlib.Core.List.{List, [], ◌∷◌, ◌++◌, append_assoc, append-nil}
 use Prim.Native.Nat.{ℕ, suc, ◌+◌, ◌-◌, ◌*◌, ◌^◌, ◌≤◌, ◌<◌}
 use native.Mathlib.Omega.{arith}
-use native.Mathlib.Nat.{add-zero, pow-le-pow_right}
+use native.Mathlib.Nat.{pow-le-pow_right}
 use lib.Dec.{leb}
 use lib.ListN.{length, get_or, take, drop, length-append, length-take, length-drop}
-use lib.Seq.{length-take-le, take-take, split_at, take_at, drop_at, drop-drop, get_or-take, get_or-drop}
+use lib.Seq.{length-take-le, take-take, split_at, take_at, drop_at, drop-drop, get_or-drop}
 use borrow.Author.Tests.{ne_eqb}
 use Rattle.std.specs.Prelude.{Option, Some, None, Ok, Err}
 use Rattle.std.specs.Char.{is_ascii_digit}
 use Rattle.breaths.specs.Breaths.{breath_of}
 use Rattle.text.specs.Scan.{is_digit, in_first, parted, length_before}
 use Rattle.recording.specs.Lines.{digits_from, from_ticks, from_fields, read_line}
-use Rattle.recording.specs.Steps.{LeadingDigits, TickAt, BreathFound, DigitCount, TickEnd, TickEndFound, LineLength, LineLengthFound}
+use Rattle.recording.specs.Steps.{LeadingDigits, tick_of, is_begun, TickAt, BreathFound, DigitCount, TickEnd, TickEndFound, LineLength, LineLengthFound}
 use Rattle.breaths.specs.declared.breath.Breath.{Breath}
 use Rattle.recording.specs.declared.line.Entry.{Entry}
 use Rattle.text.proofs.ScanLaws.{before_step, before_le, before_take}
 use Rattle.text.proofs.PartLaws.{parted_step, parted_none}
-use Rattle.recording.proofs.LineLaws.{Leading, leading_start, leading_end, leading_stopped, leading_next, digits_step, no_tick, digit_bounds, tick_digits, leading_tick, start_some}
+use Rattle.recording.proofs.LineLaws.{Leading, leading_start, leading_end, leading_stopped, leading_next, digits_step, no_tick, digit_bounds, tick_begun, tick_small, leading_tick, start_some}
 
 -- ---- a tick mark and the byte that ends it
 
-pub tick_at : {bs : List ℕ} {from limit v c : ℕ} (e : ℕ) → from + 11 ≤ length bs → limit ≤ from + 10 → LeadingDigits (take (limit - from) (drop from bs)) v c
-    → get_or bs (from + c) 0 ≡ e → (from + c ≡ from → ⊥) → v ≤ 4294967295 → (get_or bs from 0 ≡ 48 → ⊥) ⊎ (from + c ≤ from + 1) → TickAt bs from e v (from + c + 1)
-tick_at {bs} {from} {limit} {v} {c} e long few l ended some small lead =
+pub tick_at : {bs : List ℕ} {from limit v c t : ℕ} (e : ℕ) → from + 11 ≤ length bs → limit ≤ from + 10 → LeadingDigits (take (limit - from) (drop from bs)) v c
+    → get_or bs (from + c) 0 ≡ e → is_begun (take (from + c - from) (drop from bs)) ≡ true → tick_of v ≡ Some t → TickAt bs from e t (from + c + 1)
+tick_at {bs} {from} {limit} {v} {c} {t} e long few l ended begun small =
     let rest : List ℕ = drop from bs in
     let most : c ≤ limit - from = omega (arith, l.within, length-take (limit - from) rest) in
     let more : c < length rest = omega (arith, most, length-drop from bs) in
     let exact : length (take c rest) ≡ c = length-take-le c rest (omega arith) in
-    let first : get_or (take c rest) 0 0 ≡ get_or bs from 0 =
-    get_or-take c rest 0 0 (omega arith) ∙ get_or-drop from bs 0 0 ∙ ap (λ (j : ℕ). get_or bs j 0) (add-zero from)
-    in
-    let leads : (get_or (take c rest) 0 0 ≡ 48 → ⊥) ⊎ (length (take c rest) ≤ 1) =
-    ⊎_elim (λ n. inl (λ z. n (sym first ∙ z))) (λ s. inr (omega arith)) lead
-    in
+    let count : from + c - from ≡ c = omega arith in
+    let begins : is_begun (take c rest) ≡ true = ap (λ (n : ℕ). is_begun (take n rest)) (sym count) ∙ begun in
     let last : get_or rest c 0 ≡ e = get_or-drop from bs c 0 ∙ ended in
-    let digits : digits_from 0 (take c rest) ≡ Some v = ap (digits_from 0) (sym (take-take c (limit - from) rest most)) ∙ leading_tick l small in
+    let digits : digits_from 0 (take c rest) ≡ Some t = ap (digits_from 0) (sym (take-take c (limit - from) rest most)) ∙ leading_tick l ∙ small in
     record {
       field = take c rest;
       rest = drop (suc c) rest;
       bytes = split_at rest c 0 more ∙ ap (λ (x : ℕ). take c rest ++ (x ∷ drop (suc c) rest)) last;
       digits = digits;
-      tick = sym (tick_digits (take c rest) (omega arith) leads) ∙ digits;
+      tick = sym (tick_begun (take c rest) begins) ∙ digits;
       place = omega (arith, exact);
       short = omega (arith, most);
     }
@@ -196,11 +191,11 @@ module _ {bs : List ℕ} {i : ℕ} (d : Running bs i) where
 
 -- nine digits are no number above the largest
 pub tick_ends : {bs : List ℕ} {from c : ℕ} (e : ℕ) → from + 11 ≤ length bs → DigitCount (take (from + 9 - from) (drop from bs)) c → get_or bs (from + c) 0 ≡ e
-    → (from + c ≡ from → ⊥) → (get_or bs from 0 ≡ 48 → ⊥) ⊎ (from + c ≤ from + 1) → TickEnd bs from e (from + c + 1)
-tick_ends {bs} {from} {c} e long r ended some lead =
+    → is_begun (take (from + c - from) (drop from bs)) ≡ true → TickEnd bs from e (from + c + 1)
+tick_ends {bs} {from} {c} e long r ended begun =
     let l : LeadingDigits (take (from + 9 - from) (drop from bs)) r.value c = r.leading in
     let nine : 10 ^ c ≤ 10 ^ 9 = pow-le-pow_right {n = 10} (omega arith) {i = c} {j = 9} (omega (arith, l.within, length-take (from + 9 - from) (drop from bs))) in
-    record { ticks = r.value; tick = tick_at e long (omega arith) l ended some (omega (arith, l.few, nine)) lead }
+    record { ticks = r.value; tick = tick_at e long (omega arith) l ended begun (tick_small (omega (arith, l.few, nine))) }
 
 three_ticks : {bs : List ℕ} {i j k : ℕ} → TickEnd bs 0 9 i → TickEnd bs i 9 j → TickEnd bs j 10 k → LineLength bs k
 three_ticks x y z =

@@ -1,5 +1,5 @@
 -- Reading in one pass: what the functions that read the start of some bytes promise.
-use Rattle.std.specs.Prelude.{ℕ, suc, ◌+◌, ◌^◌, ◌≤◌, ◌<◌, ◌≡◌, Bool, false, ◌&&◌, Option, Some, None, Ok, Err, List, ◌∷◌, ◌++◌, leb, length, get_or, take, drop}
+use Rattle.std.specs.Prelude.{ℕ, suc, ◌+◌, ◌^◌, ◌≤◌, ◌<◌, ◌≡◌, Bool, false, not, ◌&&◌, ◌||◌, Option, Some, None, Ok, Err, List, [], ◌∷◌, ◌++◌, eqb, leb, length, get_or, take, drop}
 use Rattle.std.specs.Prelude.{if◌then◌else◌}
 use Rattle.slash.specs.Answers.{Outcome, stop, done}
 use Rattle.breaths.specs.Breaths.{most_ticks}
@@ -16,6 +16,15 @@ pub record LeadingDigits (bs : List ℕ) (v count : ℕ) : Type 0 where
   pub few : v < 10 ^ count
   pub goes : (xs : List ℕ) → digits_from 0 (take count bs ++ xs) ≡ (if leb v most_ticks then digits_from v xs else None)
   pub stopped : count < length bs → (t : Bool) → (is_digit (get_or bs count 0) && t) ≡ false
+
+-- The tick mark that is a number, where it is none above the largest.
+unfoldable pub tick_of : ℕ → Option ℕ
+tick_of v = if leb v most_ticks then Some v else None
+
+-- A field is begun as a tick mark is: it isn't empty, and no 0 (byte 48) stands in front of another byte.
+unfoldable pub is_begun : List ℕ → Bool
+is_begun [] = false
+is_begun (x ∷ xs) = not (eqb x 48) || eqb (length (x ∷ xs)) 1
 
 -- From place `from` on stands the tick mark t, and then the byte e, which ends it.
 pub record TickAt (bs : List ℕ) (from e t behind : ℕ) : Type 0 where

@@ -2,7 +2,7 @@
 ghost use Rattle.std.specs.Prelude.{◌≡◌, ◌+◌, ◌≤◌, length, take};
 ghost use Rattle.text.specs.Scan.{length_before, parted};
 ghost use Rattle.recording.specs.Lines.{digits_from, read_tick, from_ticks, from_fields, read_line};
-ghost use Rattle.recording.specs.Steps.{LeadingDigits, TickFound, BreathFound};
+ghost use Rattle.recording.specs.Steps.{LeadingDigits, tick_of, is_begun, TickFound, BreathFound};
 
 use crate::stop;
 use breaths::Breath;
@@ -10,9 +10,6 @@ use text::length_before;
 
 // The longest line of a recording, with its line feed.
 pub const LONGEST_LINE: usize = 33;
-
-// The largest tick mark.
-const MOST_TICKS: u64 = 4294967295;
 
 // The most digits of a tick mark.
 const MOST_DIGITS: usize = 10;
@@ -49,7 +46,14 @@ fn leading_digits(bytes: &[u8]) -> Digits
     }
 }
 
-// The number of some digits; none where it is no tick mark.
+// The tick mark that is a number, where it is none above the largest.
+fn tick_of(value: u64) -> Option<u32>
+    ensures { result ≡ tick_of value }
+{
+    u32::try_from(value).ok()
+}
+
+// The number of some digits, where it is a tick mark.
 fn read_digits(digits: &[u8]) -> Option<u32>
     requires { length digits.now ≤ 10 }
     ensures { result ≡ digits_from 0 digits.now }
@@ -58,23 +62,25 @@ fn read_digits(digits: &[u8]) -> Option<u32>
     if d.count < digits.len() {
         return None;
     }
-    if MOST_TICKS < d.value {
-        return None;
+    tick_of(d.value)
+}
+
+// Whether a field is begun as a tick mark is: it isn't empty, and no 0 stands in front of another byte.
+pub(crate) fn is_begun(field: &[u8]) -> bool
+    ensures { result ≡ is_begun field.now }
+{
+    match field {
+        [] => false,
+        [first, ..] => (*first != b'0') | (field.len() == 1),
     }
-    Some(d.value as u32)
 }
 
 // The tick mark that a field is, if it is one.
 pub(crate) fn read_tick(field: &[u8]) -> Option<u32>
     ensures { result ≡ read_tick field.now }
 {
-    if field.len() == 0 {
+    if !is_begun(field) {
         return None;
-    }
-    if field[0] == b'0' {
-        if 1 < field.len() {
-            return None;
-        }
     }
     if MOST_DIGITS < field.len() {
         return None;
@@ -155,18 +161,11 @@ fn read_tick_at(bytes: &[u8], from: usize, end: u8) -> Option<(u32, usize)>
     if bytes[k] != end {
         return None;
     }
-    if k == from {
+    let tick = tick_of(d.value)?;
+    if !is_begun(&bytes[from..k]) {
         return None;
     }
-    if MOST_TICKS < d.value {
-        return None;
-    }
-    if bytes[from] == b'0' {
-        if from + 1 < k {
-            return None;
-        }
-    }
-    Some((d.value as u32, k + 1))
+    Some((tick, k + 1))
 }
 
 // The breath at the start of some bytes, in one pass; none where this finds none. Where they hold the

@@ -2,7 +2,7 @@
 ghost use Rattle.std.specs.Prelude.{◌+◌, ◌≤◌, length};
 ghost use Rattle.recording.specs.Steps.{DigitCount, TickEndFound, LineLengthFound};
 
-use crate::line::LONGEST_LINE;
+use crate::line::{LONGEST_LINE, is_begun};
 
 // So many digits are no number above the largest tick mark.
 const SURE_DIGITS: usize = 9;
@@ -29,13 +29,8 @@ fn tick_end(bytes: &[u8], from: usize, end: u8) -> Option<usize>
     if bytes[k] != end {
         return None;
     }
-    if k == from {
+    if !is_begun(&bytes[from..k]) {
         return None;
-    }
-    if bytes[from] == b'0' {
-        if from + 1 < k {
-            return None;
-        }
     }
     Some(k + 1)
 }
