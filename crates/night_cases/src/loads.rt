@@ -55,6 +55,9 @@ fn fill(list: &mut Vec<u64>, places: usize, first: u64) -> io::Result<()> {
     Ok(())
 }
 
+// The most places of a list that a text is loaded into: a few more than a listing has breaths.
+pub(crate) const PLACES: usize = 65540;
+
 // A text loaded into lists of so many places: what came of it, and the lists.
 pub(crate) fn run<W: Write>(
     out: &mut W,
@@ -63,6 +66,9 @@ pub(crate) fn run<W: Write>(
     words: usize,
     lent: &mut Lent,
 ) -> io::Result<()> {
+    if PLACES < numbers || PLACES < words {
+        return Ok(());
+    }
     fill(&mut lent.numbers, numbers, LENT_NUMBER)?;
     fill(&mut lent.words, words, LENT_WORD)?;
     match loading::load_text(text, &mut lent.numbers, &mut lent.words) {

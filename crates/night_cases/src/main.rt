@@ -5,7 +5,6 @@
 // - a text to load: what comes of it is written, and the lists that it was loaded into. What is loaded
 //   must be printed as that text.
 // - words: their listing is written, or the stop.
-// A line that begins with # is a comment, and is written as it stands.
 // tests/second writes the requests and what the answers must be.
 
 #![tactic(auto)]
@@ -19,36 +18,67 @@ mod recordings;
 mod show;
 
 use lent::Lent;
-use recipe::{Asked, Request};
+use recipe::{Asked, Recipe};
 use std::alloc::Global;
 use std::io;
-use std::io::{BufRead, BufReader, BufWriter, Write};
+use std::io::{BufRead, BufReader, LineWriter, Write};
 
-// What a line asks for.
-fn run<W: Write>(alloc: Global, out: &mut W, line: &str, lent: &mut Lent) -> io::Result<()> {
-    if line.starts_with('#') {
-        return out.write_all(line.as_bytes());
-    }
-    let Request { asked, bytes } = recipe::parsed(alloc, line)?;
-    match asked {
-        Asked::Listing => recordings::run(alloc, out, &bytes, lent),
-        Asked::Loading { numbers, words } => loads::run(out, &bytes, numbers, words, lent),
-        Asked::Printing => prints::run(out, &bytes, lent),
+// What a recipe asks for.
+fn answer<W: Write>(alloc: Global, out: &mut W, r: &Recipe, lent: &mut Lent) -> io::Result<()> {
+    match r.asked {
+        Asked::Listing => recordings::run(alloc, out, &r.bytes, lent),
+        Asked::Loading => loads::run(out, &r.bytes, r.numbers, r.words, lent),
+        Asked::Printing => prints::run(out, &r.bytes, lent),
     }
 }
 
-fn main(rt: HostRuntime) -> io::Result<()> {
+// Takes a line, with the line feed that ends it, byte by byte; what stands from # on is a comment, and
+// is written as it stands. What stands behind the last line feed asks for nothing.
+fn take_line<W: Write>(
+    alloc: Global,
+    out: &mut W,
+    line: &[u8],
+    r: &mut Recipe,
+    lent: &mut Lent,
+) -> io::Result<()> {
+    r.begin(Asked::Listing);
+    for (i, &b) in line.iter().enumerate() {
+        match b {
+            b'#' => return out.write_all(&line[i..]),
+            b'\n' => {
+                r.end_piece(alloc)?;
+                answer(alloc, out, r, lent)?;
+                return out.write_all(b"\n");
+            }
+            _ => r.take(alloc, b)?,
+        }
+    }
+    Ok(())
+}
+
+fn run(rt: &HostRuntime) -> io::Result<()> {
     let alloc = rt.alloc();
-    let mut out = BufWriter::new(alloc, io::writer(&rt))?;
+    let mut from = BufReader::new(alloc, rt.reader())?;
+    let mut out = LineWriter::new(alloc, io::writer(rt))?;
     let mut room = vec![in alloc; 0; lent::ROOM]?;
     let mut lent = Lent {
         numbers: Vec::new(alloc),
         words: Vec::new(alloc),
         listing: room.as_mut_array().unwrap(),
     };
-    for line in BufReader::new(alloc, rt.reader())?.lines(alloc) {
-        run(alloc, &mut out, &line?, &mut lent)?;
-        out.write_all(b"\n")?;
+    let mut recipe = Recipe::new(alloc);
+    let mut line = Vec::new(alloc);
+    for _ in 0..u64::MAX {
+        line.clear();
+        if from.read_until(b'\n', &mut line)? == 0 {
+            break;
+        }
+        take_line(alloc, &mut out, &line, &mut recipe, &mut lent)?;
     }
     out.flush()
+}
+
+// Where a read or a write fails, the run ends there.
+fn main(rt: HostRuntime) {
+    let _ = run(&rt);
 }

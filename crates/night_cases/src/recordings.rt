@@ -5,10 +5,6 @@ use std::alloc::Global;
 use std::io;
 use std::io::Write;
 
-// The places of each list that a recording's listing is loaded into: a few more than a listing has
-// breaths.
-const PLACES: usize = 65540;
-
 // The listing of a recording, whole, or in pieces where a stop refuses it. Pieces that don't make it
 // are told, and a listing that isn't loaded, or whose words aren't printed as it stood.
 pub(crate) fn run<W: Write>(
@@ -41,8 +37,8 @@ fn compare<W: Write>(
     if pieces::listed(alloc, bytes, &mut [0u8; 70])?.as_slice() != listing {
         writeln!(out, "THE PIECES DIFFER FROM THE LISTING")?;
     }
-    lent.numbers.resize(PLACES, 0)?;
-    lent.words.resize(PLACES, 0)?;
+    lent.numbers.resize(loads::PLACES, 0)?;
+    lent.words.resize(loads::PLACES, 0)?;
     if !loads::is_loaded(listing, lent) {
         writeln!(out, "loaded otherwise")?;
     }
