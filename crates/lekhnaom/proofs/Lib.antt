@@ -1,4 +1,4 @@
--- The laws that the functions' proofs cite.
+-- The laws of what the functions say, which documents name.
 pub mod StatusLaws
 pub mod ValueLaws
 pub mod PieceLaws

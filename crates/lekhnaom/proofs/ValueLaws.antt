@@ -1,6 +1,6 @@
 -- A word's value as numbers in a row. Assumes nothing.
 -- `number_again`: the numbers of a value with its mark tell just that. `normalised_again`: so, what is read of a word is written as the word
--- normalised.
+-- normalised. `good_status`, `refused_status`: what a call returns of a word that is checked.
 use mathlib.Core.Path.{◌≡◌, refl, sym, ap, ◌∙◌, subst}
 use mathlib.Core.Bool.{Bool, true, false, ◌||◌}
 use mathlib.Core.List.{List, [], ◌∷◌}
@@ -8,12 +8,13 @@ use Prim.Native.Nat.{ℕ, ◌+◌, ◌*◌, ◌%◌, ◌^◌}
 use lib.Dec.{eqb, ltb}
 use lib.ListN.{get_or}
 use borrow.Author.Tests.{ne_eqb}
+use Rattle.std.specs.Prelude.{Ok, Err}
 use Rattle.slash.specs.Answers.{Outcome, stop, done, ◌then◌, WhenDone}
 use Rattle.slash.specs.Best.{BestForValue}
 use Rattle.slash.specs.Bits.{bit_of}
 use Rattle.slash.specs.Formats.{known, check_format}
 use Rattle.slash.specs.Numbers.{parts_of}
-use Rattle.slash.specs.Reading.{check_outcome, checked_word, check_word, number_of, read_word}
+use Rattle.slash.specs.Reading.{checked_word, check_word, number_of, read_word}
 use Rattle.slash.specs.Writing.{word_for, write_number}
 use Rattle.slash.proofs.AnswerLaws.{done_inj}
 use Rattle.slash.proofs.CanonicalLaws.{read_known, held_over, read_held}
@@ -27,93 +28,19 @@ use Rattle.slash.specs.declared.number.Parts.{Parts}
 use Rattle.slash.specs.declared.number.Value.{Value}
 use Rattle.slash.specs.declared.number.Value.TheVariants.{Fraction, Zero, Infinity, NotANumber}
 use Rattle.slash.specs.declared.answer.Stop.{Stop}
-use Rattle.slash.specs.declared.reading.Checked.{Checked}
 use Rattle.slash.specs.declared.reading.GoodWord.{GoodWord}
 use Rattle.vectors.specs.Each.{vector_after}
 use Rattle.lekhnaom.specs.Status.{status}
 use Rattle.lekhnaom.specs.Values.{class_of, numbers_of, read_numbers, value_from, number_from, number_at, write_told, BestForTold}
 
--- ---- what is read
-
-module _ (f : Format) (w : ℕ) (old : List ℕ) where
-  -- a number that is read, as the five numbers that the code makes of it
-  read_done : (x : Number) → done x ≡ read_word f w → (s c m : ℕ) → s ≡ bit_of (parts_of x.value).negative → c ≡ class_of x.value → m ≡ bit_of x.approximate
-      → (0 ≡ status (read_numbers f w)) × ((s ∷ c ∷ (parts_of x.value).numerator ∷ (parts_of x.value).denominator ∷ m ∷ []) ≡ vector_after (read_numbers f w) old)
-  unfolding status read_numbers vector_after numbers_of
-  read_done x h s c m es ec em = (rw (← h) refl, rw (← h, es, ec, em) refl)
-
-  pub read_made : (x : Number) → done x ≡ read_word f w → (p : Parts) → p ≡ parts_of x.value → (s c m : ℕ) → s ≡ bit_of p.negative → c ≡ class_of x.value
-      → m ≡ bit_of x.approximate → (0 ≡ status (read_numbers f w)) × ((s ∷ c ∷ p.numerator ∷ p.denominator ∷ m ∷ []) ≡ vector_after (read_numbers f w) old)
-  read_made x h p g s c m = rw g (read_done x h s c m)
-
-  pub read_stop : {n p : ℕ} → stop n p ≡ read_word f w → (r : ℕ) → r ≡ p % 2 ^ 56 * 256 + n % 256
-      → (r ≡ status (read_numbers f w)) × (old ≡ vector_after (read_numbers f w) old)
-  unfolding status read_numbers vector_after
-  read_stop h r g = (rw (← h) g, rw (← h) refl)
-
--- ---- what is told
-
-module _ (sign class n d mark : ℕ) where
-  pub told_bad : (ltb 1 sign || ltb 1 mark) ≡ true → stop 2 0 ≡ number_from sign class n d mark
-  unfolding number_from
-  told_bad e = rw e refl
-
-  module _ (e : (ltb 1 sign || ltb 1 mark) ≡ false) where
-    told_as : (v : Value) → done v ≡ value_from (eqb sign 1) class n d → done (record { value = v; approximate = eqb mark 1 }) ≡ number_from sign class n d mark
-    unfolding number_from
-    told_as v h = rw (e, ← h) refl
-
-    pub told_fraction : class ≡ 1 → done (record { value = Fraction (record { negative = eqb sign 1; numerator = n; denominator = d }); approximate = eqb mark 1 }) ≡ number_from sign class n d mark
-    unfolding value_from
-    told_fraction c = told_as _ (rw c refl)
-
-    module _ (c₁ : class ≡ 1 → ⊥) where
-      pub told_zero : class ≡ 2 → done (record { value = Zero (eqb sign 1); approximate = eqb mark 1 }) ≡ number_from sign class n d mark
-      unfolding value_from
-      told_zero c = told_as _ (rw c refl)
-
-      pub told_infinity : class ≡ 3 → done (record { value = Infinity (eqb sign 1); approximate = eqb mark 1 }) ≡ number_from sign class n d mark
-      unfolding value_from
-      told_infinity c = told_as _ (rw c refl)
-
-      pub told_nan : class ≡ 4 → done (record { value = NotANumber; approximate = eqb mark 1 }) ≡ number_from sign class n d mark
-      unfolding value_from
-      told_nan c = told_as _ (rw c refl)
-
-      pub told_none : (class ≡ 2 → ⊥) → (class ≡ 3 → ⊥) → (class ≡ 4 → ⊥) → stop 2 0 ≡ number_from sign class n d mark
-      unfolding number_from value_from
-      told_none c₂ c₃ c₄ = rw (e, ne_eqb _ _ c₁, ne_eqb _ _ c₂, ne_eqb _ _ c₃, ne_eqb _ _ c₄) refl
-
--- ---- what is written
-
-module _ (f : Format) (told : Outcome Number) where
-  pub write_unknown : {n p : ℕ} → stop n p ≡ check_format f → (stop n p ≡ write_told f told) × (WhenDone (stop n p) (BestForTold f told))
-  unfolding write_told
-  write_unknown e = (rw (← e) refl, tt)
-
-  pub write_untold : done tt ≡ check_format f → {n p : ℕ} → stop n p ≡ told → (stop n p ≡ write_told f told) × (WhenDone (stop n p) (BestForTold f told))
-  unfolding write_told
-  write_untold k e = (rw (← k, ← e) refl, tt)
-
-  pub write_told_lem : done tt ≡ check_format f → (x : Number) → done x ≡ told → (o : Outcome ℕ) → (o ≡ write_number f x) × WhenDone o (BestForValue f x.value)
-      → (o ≡ write_told f told) × WhenDone o (BestForTold f told)
-  unfolding write_told BestForTold
-  write_told_lem k x e o m = (rw (← k, ← e) m.0, rw (← e) m.1)
-
-pub write_at : (f : Format) (l : List ℕ) (told : Outcome Number) → told ≡ number_from (get_or l 0 0) (get_or l 1 0) (get_or l 2 0) (get_or l 3 0) (get_or l 4 0)
-    → (o : Outcome ℕ) → (o ≡ write_told f told) × WhenDone o (λ w. BestForTold f told w)
-    → (o ≡ write_told f (number_at l)) × WhenDone o (λ w. BestForTold f (number_at l) w)
-unfolding number_at
-write_at f l told e o m = subst (λ (t : Outcome Number). (o ≡ write_told f t) × WhenDone o (λ w. BestForTold f t w)) e m
-
 -- ---- a word that is checked
 
-module _ (f : Format) (w : ℕ) (r : Checked) (e : check_outcome r ≡ checked_word f w) where
-  pub good_status : (g : GoodWord) → r ≡ Checked.Good g → 0 ≡ status (check_word f w)
+module _ (f : Format) (w : ℕ) (r : Outcome GoodWord) (e : r ≡ checked_word f w) where
+  pub good_status : (g : GoodWord) → r ≡ Ok g → 0 ≡ status (check_word f w)
   unfolding status
   good_status g d = rw (check_good f w e d) refl
 
-  pub refused_status : (s : Stop) → r ≡ Checked.Stopped s → (n : ℕ) → n ≡ s.place % 2 ^ 56 * 256 + s.number % 256 → n ≡ status (check_word f w)
+  pub refused_status : (s : Stop) → r ≡ Err s → (n : ℕ) → n ≡ s.place % 2 ^ 56 * 256 + s.number % 256 → n ≡ status (check_word f w)
   unfolding status
   refused_status s d n g = rw (← check_stop f w e d) g
 
@@ -162,8 +89,8 @@ unfolding write_told write_number
 told_written f x = twice _ (check_format f)
   where
     twice : (o : Outcome ℕ) (c : Outcome (Unit {0})) → (c then λ _. (c then λ _. o)) ≡ (c then λ _. o)
-    twice o (stop n p) = refl
-    twice o (done u) = refl
+    twice o (Err s) = refl
+    twice o (Ok u) = refl
 
 normal_value : (v : Value) → exact_unary 7 v ≡ v
 unfolding exact_unary exact_parts exact_zero exact_infinity

@@ -3,5 +3,3 @@ pub mod Status
 -- What is lent as a struct: a word's value; a night listed in pieces.
 pub mod Values
 pub mod Pieces
--- For the code and the proofs alone.
-pub mod Steps

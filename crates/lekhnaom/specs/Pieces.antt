@@ -1,5 +1,5 @@
 -- A night listed in pieces for a caller in C: its state, and what a piece came to, as numbers in a row.
-use Rattle.std.specs.Prelude.{ℕ, Bool, ◌&&◌, not, List, [], ◌∷◌, eqb, ltb, get_or, length}
+use Rattle.std.specs.Prelude.{ℕ, Bool, ◌&&◌, not, List, [], ◌∷◌, eqb, ltb, get_or, length, Ok, Err}
 use Rattle.std.specs.Prelude.{if◌then◌else◌}
 use Rattle.slash.specs.Answers.{Outcome, stop, done, ◌then◌, WhenDone}
 use Rattle.breaths.specs.Rates.{make_rate}
@@ -24,8 +24,8 @@ state_of (Rated night) = night.rate.ticks ∷ night.breath ∷ night.sums.inspir
 
 -- The night of a rate, if it is one, and what is read behind its line.
 unfoldable pub rated_from : Outcome Rate → (breath : ℕ) → Sums → Outcome Night
-rated_from (stop number place) breath sums = no_night
-rated_from (done rate) breath sums = done (Rated (record { rate = rate; breath = breath; sums = sums }))
+rated_from (Err s) breath sums = no_night
+rated_from (Ok rate) breath sums = done (Rated (record { rate = rate; breath = breath; sums = sums }))
 
 -- The night of four numbers. (A breath's number has 32 bits; whether a recording has a night of this breath and these sums, the listing of a
 -- piece tells.)
@@ -45,7 +45,7 @@ night_at l = night_from (get_or l 0 0) (get_or l 1 0) (get_or l 2 0) (get_or l 3
 unfoldable pub told_by : End → ListedPiece → Outcome ListedPiece
 told_by Open l = done l
 told_by Closed l = done l
-told_by (Refused s) l = stop s.number s.place
+told_by (Refused s) l = Err s
 told_by NoNight l = no_night
 
 -- What is listed of some bytes from a state on. `last` is 0 where bytes may follow.

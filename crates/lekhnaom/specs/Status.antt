@@ -1,18 +1,18 @@
 -- What a call from C returns, and what it leaves behind a pointer.
-use Rattle.std.specs.Prelude.{ℕ, ◌+◌, ◌*◌, ◌%◌, ◌^◌}
-use Rattle.slash.specs.Answers.{Outcome, stop, done, ◌then◌}
+use Rattle.std.specs.Prelude.{ℕ, ◌+◌, ◌*◌, ◌%◌, ◌^◌, Ok, Err}
+use Rattle.slash.specs.Answers.{Outcome, done, ◌then◌}
 use Rattle.loading.specs.declared.load.Counted.{Counted}
 
 -- 0 where nothing stopped; else the stop's number in the low 8 bits and its place above them. (No number is above 255, and no memory lends
 -- 2^56 places.)
 unfoldable pub status : {A : Type 0} → Outcome A → ℕ
-status (stop number place) = place % 2 ^ 56 * 256 + number % 256
-status (done x) = 0
+status (Err s) = s.place % 2 ^ 56 * 256 + s.number % 256
+status (Ok x) = 0
 
 -- What stands behind a pointer then: the result; on a stop what it was.
 unfoldable pub behind : Outcome ℕ → ℕ → ℕ
-behind (stop number place) old = old
-behind (done x) old = x
+behind (Err s) old = old
+behind (Ok x) old = x
 
 -- What loading answers goes behind two pointers: the breath count, and the total's word.
 unfoldable pub breaths_of : Outcome Counted → Outcome ℕ

@@ -12,7 +12,7 @@ pub extern "C" fn slash_width(kind: u64, k: u64, width: &mut u64) -> u64
     ensures returned { result ≡ status (of_known (format_of kind k) (width_of (format_of kind k))) }
     ensures stored { width.new ≡ behind (of_known (format_of kind k) (width_of (format_of kind k))) width.old }
 {
-    let f = Format { kind: kind, k: k };
+    let f = Format { kind, k };
     store(f.width(), width)
 }
 
@@ -22,6 +22,6 @@ pub extern "C" fn slash_largest(kind: u64, k: u64, largest: &mut u64) -> u64
     ensures returned { result ≡ status (of_known (format_of kind k) (largest_part (format_of kind k))) }
     ensures stored { largest.new ≡ behind (of_known (format_of kind k) (largest_part (format_of kind k))) largest.old }
 {
-    let f = Format { kind: kind, k: k };
+    let f = Format { kind, k };
     store(f.largest_numerator(), largest)
 }

@@ -5,10 +5,10 @@ ghost use Rattle.loading.specs.Fills.{count_of, load_into, numbers_after, words_
 ghost use Rattle.lekhnaom.specs.Status.{status, behind, breaths_of, total_of};
 
 use crate::status::stop_status;
-use loading::Loaded;
 
 // The breaths' numbers and words stand at the start of the lent lists, and their count and the
 // total's word behind the pointers. Stops 13 to 15, at a line, and last 7.
+#[tactic(auto, unfolding(crate::specs::Status::status, crate::specs::Status::behind, crate::specs::Status::breaths_of, crate::specs::Status::total_of))]
 #[unsafe(no_mangle)]
 pub extern "C" fn slash_load(
     text: &[u8],
@@ -25,11 +25,11 @@ pub extern "C" fn slash_load(
     ensures exactly { Exactly text.now }
 {
     match loading::load_text(text, numbers, words) {
-        Loaded::Done(c) => {
+        Ok(c) => {
             *count = c.breaths;
             *total = c.total;
             0
         }
-        Loaded::Stopped(s) => stop_status(s),
+        Err(s) => stop_status(s),
     }
 }

@@ -1,4 +1,7 @@
 // One breath's word, and the listing of a recording.
+
+#![tactic(auto, unfolding(crate::specs::Status::behind))]
+
 ghost use Rattle.std.specs.Prelude.{◌≡◌};
 ghost use Rattle.slash.specs.Answers.{WhenDone};
 ghost use Rattle.breaths.specs.Ratios.{ratio_of, BestRatio};
@@ -7,7 +10,7 @@ ghost use Rattle.text.specs.Stores.{length_of, list_after};
 ghost use Rattle.listing.specs.Listing.{night_outcome, BestNight};
 ghost use Rattle.lekhnaom.specs.Status.{status, behind};
 
-use crate::status::{store, store_word};
+use crate::status::store;
 
 // The word of the breath between two onsets at a rate, 0 where it is void. Stop 19.
 #[unsafe(no_mangle)]
@@ -16,7 +19,7 @@ pub extern "C" fn slash_breath(rate: u64, onset: u32, peak: u32, next: u32, word
     ensures stored { word.new ≡ behind (breath_stored rate onset peak next) word.old }
     ensures best { WhenDone (breath_stored rate onset peak next) (λ _. BestRatio (breath_of onset peak next).inspiration (breath_of onset peak next).whole (ratio_of word.new)) }
 {
-    store_word(breaths::stored_word(rate, onset, peak, next), word)
+    store(breaths::stored_word(rate, onset, peak, next), word)
 }
 
 // The listing stands at the start of the lent array, and its length behind the pointer. Stops 8 to

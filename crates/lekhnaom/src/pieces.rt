@@ -1,79 +1,55 @@
 // A night listed in pieces. Its state and what a piece came to are lent as numbers in a row, structs
 // in C.
-ghost use Rattle.std.specs.Prelude.{◌≡◌, [], ◌∷◌, length};
+ghost use Rattle.std.specs.Prelude.{◌≡◌, length};
+ghost use Rattle.std.specs.Option.{ok_or};
 ghost use Rattle.text.specs.Stores.{list_after};
 ghost use Rattle.vectors.specs.Each.{vector_after};
 ghost use Rattle.lekhnaom.specs.Status.{status};
-ghost use Rattle.lekhnaom.specs.Pieces.{state_of, night_from, night_at, piece_from, is_last, state_behind, text_of, numbers_behind, PiecesMakeListing, BestFrom};
-ghost use Rattle.lekhnaom.specs.Steps.{state_outcome};
+ghost use Rattle.lekhnaom.specs.Pieces.{state_of, night_at, piece_from, is_last, state_behind, text_of, numbers_behind, PiecesMakeListing, BestFrom};
 
 use crate::status::stop_status;
-use breaths::{Rate, RateMade, Sums};
-use listing::{End, Night, Piece, RatedNight};
+use breaths::{Rate, Sums};
+use listing::{End, Night, RatedNight};
 
 // The stop of a state that no recording has.
 const NO_NIGHT: u64 = 255;
 
 // The night that a state tells, if it tells one.
-#[derive(Clone, Copy)]
-enum State {
-    Told(Night),
-    Other,
-}
-
-// The night of four numbers.
-fn night_from(rate: u64, breath: u64, inspiration: u64, whole: u64) -> State
-    ensures { state_outcome result ≡ night_from rate breath inspiration whole }
+#[tactic(auto, unfolding(crate::specs::Pieces::night_at, crate::specs::Pieces::night_from, crate::specs::Pieces::rated_from))]
+fn night_at(state: &[u64; 4]) -> Option<Night>
+    ensures { ok_or result (record { number = 255; place = 0 }) ≡ night_at state.now }
 {
+    let [rate, breath, inspiration, whole] = *state;
     if (rate == 0) & ((breath == 0) & ((inspiration == 0) & (whole == 0))) {
-        return State::Told(Night::Begun);
+        return Some(Night::Begun);
     }
-    if 4294967295 < breath {
-        return State::Other;
-    }
-    match Rate::make(rate) {
-        RateMade::Stopped(_) => State::Other,
-        RateMade::Done(made) => State::Told(Night::Rated(RatedNight {
-            rate: made,
-            breath: breath as u32,
-            sums: Sums {
-                inspiration: inspiration,
-                whole: whole,
-            },
-        })),
-    }
+    let breath = u32::try_from(breath).ok()?;
+    let rate = Rate::make(rate).ok()?;
+    Some(Night::Rated(RatedNight {
+        rate,
+        breath,
+        sums: Sums { inspiration, whole },
+    }))
 }
 
 // The four numbers of a night.
+#[tactic(auto, unfolding(crate::specs::Pieces::state_of))]
 fn state_of(night: Night) -> [u64; 4]
     ensures { result ≡ state_of night }
 {
-    let Night::Rated(rated) = night else {
-        return [0, 0, 0, 0];
-    };
-    let rate = rated.rate;
-    let sums = rated.sums;
-    [
-        rate.per_second(),
-        rated.breath as u64,
-        sums.inspiration,
-        sums.whole,
-    ]
-}
-
-// Stores the state behind a piece, and what the piece came to.
-fn keep(listed: Piece, ended: u64, night: &mut [u64; 4], piece: &mut [u64; 3]) -> u64
-    ensures returned { result ≡ 0 }
-    ensures kept { night.new ≡ state_of listed.night }
-    ensures told { piece.new ≡ listed.used ∷ listed.length ∷ ended ∷ [] }
-{
-    let after = listed.night;
-    *night = state_of(after);
-    *piece = [listed.used as u64, listed.length as u64, ended];
-    0
+    match night {
+        Night::Begun => [0; 4],
+        Night::Rated(rated) => [
+            rated.rate.per_second(),
+            rated.breath as u64,
+            rated.sums.inspiration,
+            rated.sums.whole,
+        ],
+    }
 }
 
 // A piece of a night from a state on. Stops 8 to 11 and 19, at a line; and first 255.
+#[tactic(auto, unfolding(crate::specs::Status::status, crate::specs::Pieces::piece_from, crate::specs::Pieces::told_by, crate::specs::Pieces::ended_of, crate::specs::Pieces::state_behind, crate::specs::Pieces::text_of, crate::specs::Pieces::numbers_behind, crate::specs::Pieces::piece_numbers, crate::specs::Pieces::PiecesMakeListing, crate::specs::Pieces::BestFrom, vectors::specs::Each::vector_after, text::specs::Stores::list_after, listing::specs::Pieces::answer_of))]
 #[unsafe(no_mangle)]
 pub extern "C" fn slash_night_piece(
     night: &mut [u64; 4],
@@ -89,15 +65,17 @@ pub extern "C" fn slash_night_piece(
     ensures listing { PiecesMakeListing (night_at night.old) bytes.now (is_last last) (length text.old) }
     ensures best { BestFrom (night_at night.old) bytes.now (is_last last) (length text.old) }
 {
-    let State::Told(from) = night_from(night[0], night[1], night[2], night[3]) else {
+    let Some(from) = night_at(night) else {
         return NO_NIGHT;
     };
     let listed = listing::list_piece(from, bytes, last != 0, text);
-    let end = listed.end;
-    match end {
-        End::Open => keep(listed, 0, night, piece),
-        End::Closed => keep(listed, 1, night, piece),
-        End::Refused(stop) => stop_status(stop),
-        End::NoNight => NO_NIGHT,
-    }
+    let ended = match listed.end {
+        End::Open => 0,
+        End::Closed => 1,
+        End::Refused(stop) => return stop_status(stop),
+        End::NoNight => return NO_NIGHT,
+    };
+    *night = state_of(listed.night);
+    *piece = [listed.used as u64, listed.length as u64, ended];
+    0
 }

@@ -1,4 +1,7 @@
 // Calls on vectors.
+
+#![tactic(auto, unfolding(crate::specs::Status::status, vectors::specs::Each::stop_only))]
+
 ghost use Rattle.std.specs.Prelude.{◌≡◌};
 ghost use Rattle.slash.specs.Formats.{format_of};
 ghost use Rattle.slash.specs.Answers.{WhenDone};
@@ -10,7 +13,7 @@ ghost use Rattle.unary.specs.Each.{unary_each, BestUnary};
 ghost use Rattle.twisting.specs.Each.{twist_each, untwist_each};
 ghost use Rattle.lekhnaom.specs.Status.{status};
 
-use crate::status::of_vector;
+use crate::status::status;
 use slash::Format;
 
 // A binary operation at each place. Stops 1, 2, 3, 4, 5.
@@ -27,8 +30,8 @@ pub extern "C" fn slash_binary_each(
     ensures stored { out.new ≡ vector_after (binary_each (format_of kind k) code left.now right.now out.old) out.old }
     ensures best { WhenDone (binary_each (format_of kind k) code left.now right.now out.old) (λ _. EachPlace (BestBinary (format_of kind k) code) (places left.now right.now) out.new) }
 {
-    let f = Format { kind: kind, k: k };
-    of_vector(arithmetic::binary_each(f, code, left, right, out))
+    let f = Format { kind, k };
+    status(arithmetic::binary_each(f, code, left, right, out))
 }
 
 // A unary operation at each place. Stops 1, 2, 3, 4, 5.
@@ -44,8 +47,8 @@ pub extern "C" fn slash_unary_each(
     ensures stored { out.new ≡ vector_after (unary_each (format_of kind k) code operand.now out.old) out.old }
     ensures best { WhenDone (unary_each (format_of kind k) code operand.now out.old) (λ _. EachPlace (BestUnary (format_of kind k) code) operand.now out.new) }
 {
-    let f = Format { kind: kind, k: k };
-    of_vector(unary::unary_each(f, code, operand, out))
+    let f = Format { kind, k };
+    status(unary::unary_each(f, code, operand, out))
 }
 
 // A conversion at each place. Stops 1, 3, 4, 5.
@@ -62,12 +65,12 @@ pub extern "C" fn slash_convert_each(
     ensures stored { out.new ≡ vector_after (convert_each (format_of kind k) (format_of tokind tok) operand.now out.old) out.old }
     ensures best { WhenDone (convert_each (format_of kind k) (format_of tokind tok) operand.now out.old) (λ _. EachPlace (BestConverted (format_of kind k) (format_of tokind tok)) operand.now out.new) }
 {
-    let source = Format { kind: kind, k: k };
+    let source = Format { kind, k };
     let target = Format {
         kind: tokind,
         k: tok,
     };
-    of_vector(conversion::convert_each(source, target, operand, out))
+    status(conversion::convert_each(source, target, operand, out))
 }
 
 // Plain floating words twisted at each place. Stops 1 (for a fixed format too), 3, 4, 5.
@@ -76,8 +79,8 @@ pub extern "C" fn slash_twist_each(kind: u64, k: u64, operand: &[u64], out: &mut
     ensures returned { result ≡ status (twist_each (format_of kind k) operand.now out.old) }
     ensures stored { out.new ≡ vector_after (twist_each (format_of kind k) operand.now out.old) out.old }
 {
-    let f = Format { kind: kind, k: k };
-    of_vector(twisting::twist_each(f, operand, out))
+    let f = Format { kind, k };
+    status(twisting::twist_each(f, operand, out))
 }
 
 // Twisted words untwisted at each place. Stops 1 (for a fixed format too), 3, 4, 5.
@@ -86,6 +89,6 @@ pub extern "C" fn slash_untwist_each(kind: u64, k: u64, operand: &[u64], out: &m
     ensures returned { result ≡ status (untwist_each (format_of kind k) operand.now out.old) }
     ensures stored { out.new ≡ vector_after (untwist_each (format_of kind k) operand.now out.old) out.old }
 {
-    let f = Format { kind: kind, k: k };
-    of_vector(twisting::untwist_each(f, operand, out))
+    let f = Format { kind, k };
+    status(twisting::untwist_each(f, operand, out))
 }
