@@ -4,6 +4,7 @@ ghost use Rattle.arithmetic.specs.Steps.{Small, on_line, is_fraction};
 ghost use Rattle.arithmetic.specs.Operands.{operand_of};
 ghost use Rattle.arithmetic.specs.Comparison.{comparison_outcome, order_of, signed_order, outside, compare_of, compare_values, compare_words};
 
+use crate::finite::FinitePair;
 use crate::operand::Operand;
 use slash::{Format, Parts, Stop, Value};
 
@@ -55,27 +56,29 @@ fn outside_all(s: bool) -> Order
     if s { Order::Below } else { Order::Above }
 }
 
-// Finite values by the products of their parts across.
-#[tactic(auto, using(crate::proofs::OperandLaws::products), unfolding(crate::specs::Comparison::compare_of))]
-fn compare_parts(p: Parts, q: Parts) -> Order
-    requires { Small (Operand.Finite p) × Small (Operand.Finite q) }
-    ensures { result ≡ compare_of (Operand.Finite p) (Operand.Finite q) }
-{
-    signed_order(
-        p.negative,
-        q.negative,
-        p.numerator * q.denominator,
-        q.numerator * p.denominator,
-    )
+impl FinitePair {
+    // By the products of the parts across.
+    #[tactic(auto, unfolding(crate::specs::Comparison::compare_of))]
+    fn order(self) -> Order
+        ensures { result ≡ compare_of (Operand.Finite self.p) (Operand.Finite self.q) }
+    {
+        let FinitePair { p, q } = self;
+        signed_order(
+            p.negative,
+            q.negative,
+            p.numerator * q.denominator,
+            q.numerator * p.denominator,
+        )
+    }
 }
 
-#[tactic(auto, unfolding(crate::specs::Comparison::compare_of))]
+#[tactic(auto, using(crate::proofs::OperandLaws::products), unfolding(crate::specs::Comparison::compare_of))]
 fn compare_operands(x: Operand, y: Operand) -> Order
     requires { Small x × Small y }
     ensures { result ≡ compare_of x y }
 {
     match (x, y) {
-        (Operand::Finite(p), Operand::Finite(q)) => compare_parts(p, q),
+        (Operand::Finite(p), Operand::Finite(q)) => FinitePair { p, q }.order(),
         (Operand::Finite(_), Operand::Infinite(t)) => outside_all(!t),
         (Operand::Infinite(s), Operand::Infinite(t)) if s == t => Order::Equal,
         (Operand::Infinite(s), _) => outside_all(s),
@@ -108,7 +111,9 @@ fn compare_values(v: Value, w: Value) -> Order
     ensures { result ≡ compare_values v w }
 {
     if is_fraction(v) & is_fraction(w) {
-        return compare_parts(slash::parts_of(v), slash::parts_of(w));
+        let p = slash::parts_of(v);
+        let q = slash::parts_of(w);
+        return FinitePair { p, q }.order();
     }
     compare_any(v, w)
 }

@@ -5,6 +5,7 @@
 
 mod comparison;
 mod each;
+mod finite;
 mod operand;
 mod operation;
 

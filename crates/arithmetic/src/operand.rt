@@ -5,8 +5,9 @@ ghost use Rattle.arithmetic.specs.Operands.{operand_of, sign_of, turned};
 
 use slash::{Parts, Value};
 
-// That its parts are small is said by those who take one (`Small`): an enum has no ghost field, and
-// `operand_of` in specs/ makes operands of values of any size.
+// That its parts are small is said by those who take two (`Small`): an enum has no ghost field, a fact
+// by cases would need a proof in one that any two of its proofs are equal, and `operand_of` in specs/
+// makes operands of values of any size.
 #[derive(Clone, Copy)]
 pub(crate) enum Operand {
     Finite(Parts),

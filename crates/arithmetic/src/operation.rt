@@ -10,6 +10,7 @@ ghost use Rattle.arithmetic.specs.Operands.{operand_of};
 ghost use Rattle.arithmetic.specs.Sizes.{binary_size};
 ghost use Rattle.arithmetic.specs.Operations.{sum_size, sum_sign, sum_parts, sum_of, times_infinity, product_parts, product_of, divided_by, quotient_of, exact_of, exact_value, is_binary, binary_word};
 
+use crate::finite::FinitePair;
 use crate::operand::Operand;
 use slash::{Format, Number, Parts, Stop, Value};
 
@@ -61,43 +62,63 @@ fn sum_sign(s: bool, t: bool, ad: u64, bc: u64, size: u64) -> bool
     }
 }
 
-#[tactic(auto, using(crate::proofs::OperandLaws::products), unfolding(crate::specs::Operations::sum_parts))]
-fn sum_parts(p: Parts, q: Parts) -> Parts
-    requires { Small (Operand.Finite p) × Small (Operand.Finite q) }
-    ensures { result ≡ sum_parts p q }
-{
-    let ad = p.numerator * q.denominator;
-    let bc = p.denominator * q.numerator;
-    let size = sum_size(p.negative ^ q.negative, ad, bc);
-    Parts {
-        negative: sum_sign(p.negative, q.negative, ad, bc, size),
-        numerator: size,
-        denominator: p.denominator * q.denominator,
+impl FinitePair {
+    #[tactic(auto, unfolding(crate::specs::Operations::sum_parts))]
+    fn sum(self) -> Parts
+        ensures { result ≡ sum_parts self.p self.q }
+    {
+        let FinitePair { p, q } = self;
+        let ad = p.numerator * q.denominator;
+        let bc = p.denominator * q.numerator;
+        let size = sum_size(p.negative ^ q.negative, ad, bc);
+        Parts {
+            negative: sum_sign(p.negative, q.negative, ad, bc, size),
+            numerator: size,
+            denominator: p.denominator * q.denominator,
+        }
+    }
+
+    #[tactic(auto, unfolding(crate::specs::Operations::product_parts))]
+    fn product(self, negative: bool) -> Parts
+        ensures { result ≡ product_parts negative self.p self.q }
+    {
+        let FinitePair { p, q } = self;
+        Parts {
+            negative,
+            numerator: p.numerator * q.numerator,
+            denominator: p.denominator * q.denominator,
+        }
+    }
+
+    #[tactic(auto, unfolding(crate::specs::Operations::divided_by))]
+    fn quotient(self, negative: bool) -> Value
+        ensures { result ≡ divided_by negative self.p self.q }
+    {
+        let FinitePair { p, q } = self;
+        if q.numerator == 0 {
+            if p.numerator == 0 {
+                return Value::NotANumber;
+            }
+            return Value::Infinity(negative);
+        }
+        Value::Fraction(Parts {
+            negative,
+            numerator: p.numerator * q.denominator,
+            denominator: p.denominator * q.numerator,
+        })
     }
 }
 
-#[tactic(auto, unfolding(crate::specs::Operations::sum_of))]
+#[tactic(auto, using(crate::proofs::OperandLaws::products), unfolding(crate::specs::Operations::sum_of))]
 fn sum(x: Operand, y: Operand) -> Value
     requires { Small x × Small y }
     ensures { result ≡ sum_of x y }
 {
     match (x, y) {
-        (Operand::Finite(p), Operand::Finite(q)) => Value::Fraction(sum_parts(p, q)),
+        (Operand::Finite(p), Operand::Finite(q)) => Value::Fraction(FinitePair { p, q }.sum()),
         (Operand::Finite(_), Operand::Infinite(t)) => Value::Infinity(t),
         (Operand::Infinite(s), Operand::Infinite(t)) if s ^ t => Value::NotANumber,
         (Operand::Infinite(s), _) => Value::Infinity(s),
-    }
-}
-
-#[tactic(auto, using(crate::proofs::OperandLaws::products), unfolding(crate::specs::Operations::product_parts))]
-fn product_parts(s: bool, p: Parts, q: Parts) -> Parts
-    requires { Small (Operand.Finite p) × Small (Operand.Finite q) }
-    ensures { result ≡ product_parts s p q }
-{
-    Parts {
-        negative: s,
-        numerator: p.numerator * q.numerator,
-        denominator: p.denominator * q.denominator,
     }
 }
 
@@ -113,45 +134,27 @@ fn times_infinity(s: bool, p: Parts) -> Value
 }
 
 // The product of two operands whose signs have the product s.
-#[tactic(auto, unfolding(crate::specs::Operations::product_of))]
+#[tactic(auto, using(crate::proofs::OperandLaws::products), unfolding(crate::specs::Operations::product_of))]
 fn product(s: bool, x: Operand, y: Operand) -> Value
     requires { Small x × Small y }
     ensures { result ≡ product_of s x y }
 {
     match (x, y) {
-        (Operand::Finite(p), Operand::Finite(q)) => Value::Fraction(product_parts(s, p, q)),
+        (Operand::Finite(p), Operand::Finite(q)) => Value::Fraction(FinitePair { p, q }.product(s)),
         (Operand::Finite(p), Operand::Infinite(_)) => times_infinity(s, p),
         (Operand::Infinite(_), Operand::Finite(q)) => times_infinity(s, q),
         (Operand::Infinite(_), Operand::Infinite(_)) => Value::Infinity(s),
     }
 }
 
-#[tactic(auto, using(crate::proofs::OperandLaws::products), unfolding(crate::specs::Operations::divided_by))]
-fn divided(s: bool, p: Parts, q: Parts) -> Value
-    requires { Small (Operand.Finite p) × Small (Operand.Finite q) }
-    ensures { result ≡ divided_by s p q }
-{
-    if q.numerator == 0 {
-        if p.numerator == 0 {
-            return Value::NotANumber;
-        }
-        return Value::Infinity(s);
-    }
-    Value::Fraction(Parts {
-        negative: s,
-        numerator: p.numerator * q.denominator,
-        denominator: p.denominator * q.numerator,
-    })
-}
-
 // The quotient of two operands whose signs have the product s.
-#[tactic(auto, unfolding(crate::specs::Operations::quotient_of))]
+#[tactic(auto, using(crate::proofs::OperandLaws::products), unfolding(crate::specs::Operations::quotient_of))]
 fn quotient(s: bool, x: Operand, y: Operand) -> Value
     requires { Small x × Small y }
     ensures { result ≡ quotient_of s x y }
 {
     match (x, y) {
-        (Operand::Finite(p), Operand::Finite(q)) => divided(s, p, q),
+        (Operand::Finite(p), Operand::Finite(q)) => FinitePair { p, q }.quotient(s),
         (Operand::Finite(_), Operand::Infinite(_)) => Value::Zero(s),
         (Operand::Infinite(_), Operand::Finite(_)) => Value::Infinity(s),
         (Operand::Infinite(_), Operand::Infinite(_)) => Value::NotANumber,
