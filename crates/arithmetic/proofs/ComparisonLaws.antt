@@ -23,7 +23,6 @@ use Rattle.slash.specs.declared.number.Number.{Number}
 use Rattle.arithmetic.specs.Operands.{operand_of}
 use Rattle.arithmetic.specs.Steps.{Small, on_line, is_fraction}
 use Rattle.arithmetic.specs.Comparison.{order_number, order_of, signed_order, compare_of, compare_values, compare_words}
-use Rattle.arithmetic.specs.declared.operand.Operand.{Operand}
 use Rattle.arithmetic.specs.declared.operand.Operand.TheVariants.{Finite}
 use Rattle.arithmetic.specs.declared.comparison.Order.{Order}
 use Rattle.arithmetic.specs.declared.comparison.Order.TheVariants.{Below, Equal, Above, Unordered}
@@ -114,15 +113,11 @@ line_order s t m n l k = go s t (ℕ_discrete m 0) (ℕ_discrete n 0)
     go s t (yes d) (no e) = let i : m ≡ 0 → n ≡ 0 → ⊥ = λ _ h. e h in some s t i (neither i (yes d))
     go s t (no d) e = let i : m ≡ 0 → n ≡ 0 → ⊥ = λ h _. d h in some s t i (neither i (no d))
 
--- not-a-number, or the operands
+-- not-a-number
 module _ (v w : Value) (b : Bool) (be : b ≡ (is_nan v || is_nan w)) where
   pub compare_nan : b ≡ true → Unordered ≡ compare_values v w
   unfolding compare_values
   compare_nan e = rw (← be, e) refl
-
-  pub compare_operands : b ≡ false → (x y : Operand) → x ≡ operand_of v → y ≡ operand_of w → (r : Order) → r ≡ compare_of x y → r ≡ compare_values v w
-  unfolding compare_values
-  compare_operands e x y xe ye r re = re ∙ rw (← be, e, xe, ye) refl
 
 -- two fractions
 fraction_is : (v : Value) → is_fraction v ≡ true → v ≡ Fraction (parts_of v)

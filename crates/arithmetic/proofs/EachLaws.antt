@@ -88,8 +88,5 @@ stored_at f code x o e w h = h ∙ go o ∙ ap or_zero e
     go (Ok v) = refl
     go (Err s) = refl
 
-pub stored_by : (f : Format) (n code : ℕ) (xs : List Operands) → n ≡ code → map (binary_in f n) xs ≡ map (binary_in f code) xs
-stored_by f n code xs e = ap (λ (m : ℕ). map (binary_in f m) xs) e
-
 -- what `binary_each` is proved by
 pub ruleset steps = (passed_on, plain_stop, check_known, no_operation, code_known, code_is, binary_each_format, binary_each_code, binary_each_length, binary_each_stopped, binary_each_done, binary_each_best)

@@ -3,7 +3,8 @@
 -- every finite result is the exact result cut to its last convergent that the format holds. `binary_value`: what the new word says, of every
 -- exact result. `binary_mark`, `binary_sign`, `binary_nan`: its mark, its sign, and what not-a-number gives.
 -- `sum_exact`: as a signed number the sum's sign and size are the exact sum. `over_exact`: the exact result is never over 0, so that stop 6 can't
--- come. `stop_format` to `stop_right`: the stops, in their order; the others are one for each way through the code.
+-- come. `stop_format` to `stop_right`: the stops, in their order. `code_is`, `no_operation`: a code and its operation. `steps`: what the search
+-- for the functions' proofs uses.
 use mathlib.Core.Path.{◌≡◌, refl, sym, ap, ◌∙◌, subst, subst⁻¹}
 use mathlib.Core.Bool.{Bool, true, false, not, ◌||◌, ◌&&◌, and-false}
 use Prim.Native.Nat.{ℕ, ◌+◌, ◌-◌, ◌*◌, ◌≤◌, ◌<◌}
@@ -208,15 +209,11 @@ module _ (code : ℕ) where
   pub operation_ok : is_ok (operation_of code) ≡ is_binary code
   operation_ok = by_code (λ r b. is_ok r ≡ b) (λ e. refl) (λ e. refl) (λ e. refl) (λ e. refl) refl
 
--- not-a-number, or the operands
+-- not-a-number
 module _ (code : ℕ) (v w : Value) (b : Bool) (be : b ≡ (is_nan v || is_nan w)) where
   pub exact_nan : b ≡ true → NotANumber ≡ exact_value code v w
   unfolding exact_value
   exact_nan e = rw (← be, e) refl
-
-  pub exact_operands : b ≡ false → (x y : Operand) → x ≡ operand_of v → y ≡ operand_of w → (r : Value) → r ≡ exact_of code x y → r ≡ exact_value code v w
-  unfolding exact_value
-  exact_operands e x y xe ye r re = re ∙ rw (← be, e, xe, ye) refl
 
 -- ---- no exact result is over 0
 

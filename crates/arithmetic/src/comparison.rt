@@ -18,7 +18,7 @@ pub enum Order {
 }
 
 // 2^62, where 0 lies on a line of numbers below 2^62 with signs.
-const ZERO: u64 = 4611686018427387904;
+const ZERO: u64 = 1 << 62;
 
 #[tactic(auto, unfolding(crate::specs::Comparison::order_of))]
 fn size_order(m: u64, n: u64) -> Order

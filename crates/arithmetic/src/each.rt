@@ -35,10 +35,7 @@ pub fn binary_each(
 {
     f.check()?;
     let operation = Operation::try_from(code)?;
-    if left.len() != right.len() {
-        return Err(Stop::plain(Stop::LENGTH));
-    }
-    if left.len() != out.len() {
+    if left.len() != right.len() || left.len() != out.len() {
         return Err(Stop::plain(Stop::LENGTH));
     }
     vectors::check_pairs(f, left, right)?;
