@@ -1,6 +1,7 @@
 -- Where a line ends. Assumes nothing.
 -- `marking_end`: the lowest mark of the first bytes is that of the first line feed.
-use Rattle.std.proofs.Common.{◌≡◌, ℕ, zero, suc, ◌+◌, ◌*◌, ◌/◌, ◌%◌, ◌^◌, ◌<◌, ◌≤◌, Bool, true, false, eqb, List, [], ◌∷◌, length, get_or, take, drop, sym, refl, ap, ◌∙◌, pow-suc, arith, length-drop, length-take-le, eq-eqb, ne_eqb}
+use Rattle.std.proofs.Common.{◌≡◌, ℕ, zero, suc, ◌+◌, ◌*◌, ◌/◌, ◌%◌, ◌^◌, ◌<◌, ◌≤◌, Bool, true, false, eqb, List, [], ◌∷◌, length, get_or, take, drop, sym, refl, ap, ◌∙◌, pow-suc, arith, length-drop, length-take-le}
+use mir.Val.{bool_byte}
 use lib.Count.{under, count_trailing_zeros}
 use lib.Seq.{slice_empty, slice-cons}
 use Rattle.std.specs.Prelude.{if◌then◌else◌}
@@ -19,11 +20,12 @@ mark_is : (x : ℕ) (t : Bool) → eqb x 10 ≡ t → end_mark x ≡ (if t then 
 unfolding end_mark
 mark_is x t e = ap (λ (u : Bool). if u then 1 else 0) e
 
-pub mark_end : (x : ℕ) → x ≡ 10 → 1 ≡ end_mark x
-mark_end x e = sym (mark_is x true (eq-eqb _ _ e))
-
-pub mark_other : (x : ℕ) → (x ≡ 10 → ⊥) → 0 ≡ end_mark x
-mark_other x e = sym (mark_is x false (ne_eqb _ _ e))
+pub mark_of : (x : ℕ) → bool_byte (eqb x 10) ≡ end_mark x
+mark_of x = go (eqb x 10) refl
+  where
+    go : (t : Bool) → eqb x 10 ≡ t → bool_byte (eqb x 10) ≡ end_mark x
+    go true e = ap bool_byte e ∙ sym (mark_is x true e)
+    go false e = ap bool_byte e ∙ sym (mark_is x false e)
 
 pub mark_small : (x m : ℕ) → m ≡ end_mark x → m ≤ 1
 mark_small x m h = go (eqb x 10) refl

@@ -31,7 +31,8 @@ use Rattle.text.specs.Stores.{Stored, put}
 use Rattle.text.specs.declared.line.Name.{Name}
 use Rattle.text.specs.declared.line.Name.TheVariants.{Number, All}
 use Rattle.text.proofs.NumberLaws.{decimal_small, decimal_more, decimal_length, put_front, stored_length}
-use Rattle.text.proofs.PartLaws.{and_parted, same_refl, same_is, same_not, same_differ, before_at, at_before}
+use Rattle.text.proofs.ScanLaws.{drop_past}
+use Rattle.text.proofs.PartLaws.{and_parted, drop_here, same_refl, same_is, same_not, same_differ, before_at, at_before}
 use Rattle.text.proofs.LineLaws.{name_number, name_all, line_parts, line_is, printable_is, is_printable_lem, most_bytes_lem}
 use Rattle.shapes.specs.Fields.{is_whole, is_place, in_two, are_wholes, is_fraction, are_whole_and_place, is_decimal}
 use Rattle.shapes.specs.Words.{is_hex_digit, is_word, hex_value, hex_from, word_in}
@@ -226,64 +227,38 @@ same_snoc [] (b ∷ ys) x y = ap (λ (t : Bool). eqb x b && t) (nil_snoc ys y) �
 same_snoc (a ∷ xs) [] x y = ap (λ (t : Bool). eqb a y && t) (snoc_nil xs x) ∙ and-false (eqb a y)
 same_snoc (a ∷ xs) (b ∷ ys) x y = ap (λ (t : Bool). eqb a b && t) (same_snoc xs ys x y) ∙ and_parted (eqb a b) (same xs ys) (eqb x y)
 
-pub record Counting (f : List ℕ) (n k m : ℕ) : Type 0 where
-  pub within : k ≤ length f
-  pub total : same f (decimal n) ≡ same (take k f) (decimal m)
+module _ (m : ℕ) (more : 10 ≤ m) where
+  digits : decimal m ≡ decimal (m / 10) ++ ((48 + m % 10) ∷ [])
+  digits = sym (decimal_more m (48 + m % 10) more refl)
 
-pub counting_start : (f : List ℕ) (n : ℕ) → Counting f n (length f) n
-counting_start f n = record { within = omega arith; total = ap (λ (u : List ℕ). same u (decimal n)) (sym (take-length f)) }
+  pub number_none : (f : List ℕ) → length f ≡ 0 → same f (decimal m) ≡ false
+  number_none [] e = ap (same []) digits ∙ nil_snoc (decimal (m / 10)) (48 + m % 10)
+  number_none (x ∷ xs) e = absurd (omega arith)
 
-module _ {f : List ℕ} {n k m : ℕ} (c : Counting f n k m) where
-  module _ (more : 10 ≤ m) where
-    digits : decimal m ≡ decimal (m / 10) ++ ((48 + m % 10) ∷ [])
-    digits = sym (decimal_more m (48 + m % 10) more refl)
+  module _ (f xs : List ℕ) (x : ℕ) (l : f ≡ xs ++ (x ∷ [])) where
+    number_last : (t : Bool) → eqb x (48 + m % 10) ≡ t → same f (decimal m) ≡ (same xs (decimal (m / 10)) && t)
+    number_last t e =
+        ap (λ (u : List ℕ). same u (decimal m)) l ∙ ap (same (xs ++ (x ∷ []))) digits
+        ∙ same_snoc xs (decimal (m / 10)) x (48 + m % 10) ∙ ap (λ (b : Bool). same xs (decimal (m / 10)) && b) e
 
-    pub counting_out : k ≡ 0 → false ≡ same f (decimal n)
-    counting_out z =
-        sym (c.total ∙ ap (λ (j : ℕ). same (take j f) (decimal m)) z ∙ ap (same []) digits ∙ nil_snoc (decimal (m / 10)) (48 + m % 10))
+    pub number_differs : (x ≡ 48 + m % 10 → ⊥) → same f (decimal m) ≡ false
+    number_differs d = number_last false (ne_eqb _ _ d) ∙ and-false (same xs (decimal (m / 10)))
 
-    module _ (some : k ≡ 0 → ⊥) where
-      counting_here : (t : Bool) → eqb (get_or f (k - 1) 0) (48 + m % 10) ≡ t → same f (decimal n) ≡ (same (take (k - 1) f) (decimal (m / 10)) && t)
-      counting_here t e =
-          let j : suc (k - 1) ≡ k = omega arith in
-          let l : k - 1 < length f = omega (arith, c.within) in
-          c.total ∙ ap (λ (i : ℕ). same (take i f) (decimal m)) (sym j)
-          ∙ ap (λ (u : List ℕ). same u (decimal m)) (take-suc f (k - 1) 0 l)
-          ∙ ap (same (take (k - 1) f ++ (get_or f (k - 1) 0 ∷ []))) digits
-          ∙ same_snoc (take (k - 1) f) (decimal (m / 10)) (get_or f (k - 1) 0) (48 + m % 10)
-          ∙ ap (λ (b : Bool). same (take (k - 1) f) (decimal (m / 10)) && b) e
+    pub number_before : x ≡ 48 + m % 10 → same f (decimal m) ≡ same xs (decimal (m / 10))
+    number_before e = number_last true (eq-eqb _ _ e) ∙ and-true (same xs (decimal (m / 10)))
 
-      pub counting_differs : (get_or f (k - 1) 0 ≡ 48 + m % 10 → ⊥) → false ≡ same f (decimal n)
-      counting_differs d = sym (counting_here false (ne_eqb _ _ d) ∙ and-false (same (take (k - 1) f) (decimal (m / 10))))
+module _ (f : List ℕ) (m : ℕ) (last : m < 10) where
+  digit : decimal m ≡ (48 + m) ∷ []
+  digit = sym (decimal_small m (48 + m) last refl)
 
-      pub counting_next : get_or f (k - 1) 0 ≡ 48 + m % 10 → Counting f n (k - 1) (m / 10)
-      counting_next e =
-          record {
-            within = omega (arith, c.within);
-            total = counting_here true (eq-eqb _ _ e) ∙ and-true (same (take (k - 1) f) (decimal (m / 10)));
-          }
+  pub number_long : (length f ≡ 1 → ⊥) → false ≡ same f (decimal m)
+  number_long z = same_not f ((48 + m) ∷ []) z ∙ sym (ap (same f) digit)
 
-  module _ (last : m < 10) where
-    digit : decimal m ≡ (48 + m) ∷ []
-    digit = sym (decimal_small m (48 + m) last refl)
-
-    pub counting_long : (k ≡ 1 → ⊥) → false ≡ same f (decimal n)
-    counting_long z =
-        let n : length (take k f) ≡ 1 → ⊥ = λ e. z (sym (length-take-le k f c.within) ∙ e) in
-        same_not (take k f) ((48 + m) ∷ []) n ∙ sym (c.total ∙ ap (same (take k f)) digit)
-
-    pub counting_end : k ≡ 1 → eqb (get_or f 0 0) (48 + m) ≡ same f (decimal n)
-    counting_end z =
-        let l : 0 < length f = omega (arith, c.within) in
-        sym (
-        c.total ∙ ap (λ (i : ℕ). same (take i f) (decimal m)) z
-        ∙ ap (λ (u : List ℕ). same u (decimal m)) (take-suc f 0 0 l)
-        ∙ ap (same (get_or f 0 0 ∷ [])) digit ∙ same_snoc [] [] (get_or f 0 0) (48 + m)
-        ∙ nothing (eqb (get_or f 0 0) (48 + m))
-        )
-      where
-        nothing : (b : Bool) → (same [] [] && b) ≡ b
-        nothing b = rw (same_refl []) refl
+pub number_one : (f : List ℕ) (m : ℕ) → m < 10 → length f ≡ 1 → eqb (get_or f 0 0) (48 + m) ≡ same f (decimal m)
+unfolding same
+number_one [] m l z = absurd (omega arith)
+number_one (x ∷ []) m l z = sym (and-true (eqb x (48 + m))) ∙ ap (same (x ∷ [])) (decimal_small m (48 + m) l refl)
+number_one (x ∷ y ∷ xs) m l z = absurd (omega arith)
 
 -- ---- the word of eight digits
 
@@ -320,42 +295,30 @@ unfolding word_from
 from_step v x xs = refl
 
 -- the loop over the digits
-pub record Reading (xs : List ℕ) (at v i : ℕ) : Type 0 where
-  pub within : i ≤ 8
+pub record Reading (u : List ℕ) (v i : ℕ) : Type 0 where
   pub few : v + 3 ≤ 3 * 16 ^ i
-  pub value : word_from 0 (take 8 (drop at xs)) ≡ word_from v (take (8 - i) (drop (at + i) xs))
+  pub value : word_from v (drop i u) ≡ word_from 0 u
 
-pub reading_start : (xs : List ℕ) (at : ℕ) → Reading xs at 0 0
-reading_start xs at = record { within = omega arith; few = omega arith; value = ap (λ (j : ℕ). word_from 0 (take 8 (drop j xs))) (sym (add-zero at)) }
+pub reading_start : (u : List ℕ) → Reading u 0 0
+reading_start u = record { few = omega arith; value = refl }
 
-module _ {xs : List ℕ} {at v i : ℕ} (r : Reading xs at v i) (big : at + 8 ≤ length xs) where
+module _ {u : List ℕ} {v i : ℕ} (r : Reading u v i) where
   -- no value that eight bytes say is above 2^34
   pub reading_small : i < 8 → v * 16 + 42 < 2 ^ 64
   reading_small l =
       let most : 16 ^ i ≤ 16 ^ 7 = pow-le-pow_right {n = 16} (omega arith) {i = i} {j = 7} (omega arith) in
       omega (arith, r.few, most)
 
-  module _ (l : i < 8) (d : ℕ) (de : d ≡ digit_value (get_or xs (at + i) 0)) (small : d ≤ 42) where
-    pub reading_next : Reading xs at (v * 16 + d) (i + 1)
-    reading_next =
-        let x : ℕ = get_or xs (at + i) 0 in
-        let rest : ℕ = 8 - (i + 1) in
-        let left : 8 - i ≡ suc rest = omega arith in
-        let here : drop (at + i) xs ≡ x ∷ drop (at + (i + 1)) xs =
-        drop-cons xs (at + i) 0 (omega arith) ∙ ap (λ (j : ℕ). x ∷ drop j xs) (sym (add-suc at i) ∙ ap (λ (j : ℕ). at + j) (sym (add-one i)))
-        in
-        record {
-          within = omega arith;
-          few = omega (arith, r.few, pow-suc 16 i, ap (λ (j : ℕ). 16 ^ j) (add-one i));
-          value = r.value ∙ ap (λ (j : ℕ). word_from v (take j (drop (at + i) xs))) left
-              ∙ ap (λ (u : List ℕ). word_from v (take (suc rest) u)) here ∙ from_step v x (take rest (drop (at + (i + 1)) xs))
-              ∙ ap (λ (m : ℕ). word_from (v * 16 + m) (take rest (drop (at + (i + 1)) xs))) (sym de);
-        }
+  pub reading_next : i < length u → (d : ℕ) → d ≡ digit_value (get_or u i 0) → d ≤ 42 → Reading u (v * 16 + d) (i + 1)
+  reading_next l d de small =
+      record {
+        few = omega (arith, r.few, pow-suc 16 i, ap (λ (j : ℕ). 16 ^ j) (add-one i));
+        value = ap (λ (m : ℕ). word_from (v * 16 + m) (drop (i + 1) u)) de ∙ sym (from_step v (get_or u i 0) (drop (i + 1) u))
+            ∙ ap (word_from v) (sym (drop_here u i l)) ∙ r.value;
+      }
 
-  pub reading_end : 8 ≤ i → v ≡ word_from 0 (take 8 (drop at xs))
-  reading_end l =
-      let z : 8 - i ≡ 0 = omega (arith, r.within) in
-      sym (r.value ∙ ap (λ (j : ℕ). word_from v (take j (drop (at + i) xs))) z ∙ from_nil v)
+  pub reading_end : i ≡ length u → v ≡ word_from 0 u
+  reading_end e = sym (from_nil v) ∙ ap (word_from v) (sym (drop_past u i e)) ∙ r.value
 
 -- ---- a text that begins with a printed line
 
@@ -466,36 +429,8 @@ module _ (text : List ℕ) (name : Name) (w : ℕ) where
 
 -- ---- the same where the longest line has room
 
--- the loop that copies the first bytes
-pub record Copying (text bytes : List ℕ) (i : ℕ) : Type 0 where
-  pub long : length bytes ≡ 33
-  pub within : i ≤ 33
-  pub first : take i bytes ≡ take i text
-
-pub copying_start : (text bytes : List ℕ) → length bytes ≡ 33 → Copying text bytes 0
-copying_start text bytes e = record { long = e; within = omega arith; first = refl }
-
-module _ {text bytes : List ℕ} {i : ℕ} (c : Copying text bytes i) (big : 33 ≤ length text) where
-  pub copying_next : i < 33 → Copying text (set bytes i (get_or text i 0)) (i + 1)
-  copying_next l =
-      let x : ℕ = get_or text i 0 in
-      record {
-        long = length-set bytes i x ∙ c.long;
-        within = omega arith;
-        first = ap (λ (j : ℕ). take j (set bytes i x)) (add-one i) ∙ take-suc-set bytes i x (omega (arith, c.long))
-            ∙ ap (λ (u : List ℕ). u ++ (x ∷ [])) c.first ∙ sym (take-suc text i 0 (omega arith)) ∙ ap (λ (j : ℕ). take j text) (sym (add-one i));
-      }
-
-  pub copying_end : 33 ≤ i → bytes ≡ take 33 text
-  copying_end l =
-      let e : i ≡ 33 = omega (arith, c.within) in
-      sym (take_all 33 bytes (omega (arith, c.long))) ∙ ap (λ (j : ℕ). take j bytes) (sym e) ∙ c.first ∙ ap (λ (j : ℕ). take j text) e
-
-module _ (text : List ℕ) (big : 33 ≤ length text) (name : Name) (w : ℕ) (named : is_name name ≡ true) (o o' : List ℕ) (k : ℕ) (oe : o ≡ take 33 text)
-    (r : Ratio) (re : r ≡ ratio_of w) (s : Stored o 0 (line_in (length o - 0) name r) o' k) where
-  window_long : length o ≡ 33
-  window_long = ap length oe ∙ length-take-le 33 text big
-
+module _ (name : Name) (w : ℕ) (named : is_name name ≡ true) (o o' : List ℕ) (k : ℕ) (window_long : length o ≡ 33)
+    (r : Ratio) (re : r ≡ ratio_of w) (s : Stored o 0 (line_in (length o - 0) name r) o' k) (text : List ℕ) (oe : o ≡ take 33 text) where
   module _ (l : listable w ≡ true) where
     abbrev shown : List ℕ
     shown = line_of name (ratio_of w)
@@ -524,17 +459,21 @@ module _ (text : List ℕ) (big : 33 ≤ length text) (name : Name) (w : ℕ) (n
             sym (take-take (length shown) 33 text shown_short) ∙ ap (take (length shown)) (whole ∙ window_is)
             ∙ take_at shown (drop (length shown) (take 33 text)) (length shown) refl
 
-  pub window_differs : false ≡ same (take 33 text) o' → None ≡ line_there text name w
+  pub window_differs : false ≡ same o o' → None ≡ line_there text name w
   unfolding line_there
   window_differs d = go (listable w) refl
     where
+      differs : same (take 33 text) o' ≡ false
+      differs = sym (d ∙ ap (λ (v : List ℕ). same v o') oe)
+
       go : (b : Bool) → listable w ≡ b → None ≡ (if begins text name w then Some (length (line_of name (ratio_of w))) else None)
-      go true e = rw (begins_window e, ← d) refl
+      go true e = rw (begins_window e, differs) refl
       go false e = rw (not_begins text name w e) refl
 
-  pub window_same : true ≡ same (take 33 text) o' → true ≡ listable w → Some k ≡ line_there text name w
+  pub window_same : true ≡ same o o' → true ≡ listable w → Some k ≡ line_there text name w
   unfolding line_there
-  window_same u e =
+  window_same u' e =
+      let u : true ≡ same (take 33 text) o' = u' ∙ ap (λ (v : List ℕ). same v o') oe in
       let l : listable w ≡ true = sym e in
       ap Some (s.next ∙ zero-add _ ∙ ap length (shown_is l)) ∙ rw (begins_window l, ← u) refl
 

@@ -2,11 +2,11 @@
 -- `listable_says`: a listable word that isn't 0 is canonical, has sign 0 and no bit above it, and its fraction lies from 0 to 1; `says_listable`:
 -- and every such word is listable. `ratio_listable`: so is the word of every ratio from 0 to 1. `listable_is_lowest`: what the test of the two
 -- parts says; `lowest_end`: what Euclid's algorithm with the nearest rest comes to.
-use Rattle.std.proofs.Common.{◌≡◌, ℕ, ◌+◌, ◌-◌, ◌*◌, ◌/◌, ◌%◌, ◌^◌, ◌<◌, ◌≤◌, Bool, true, false, ◌&&◌, ◌||◌, eqb, ltb, leb, ◌⊎◌, sym, refl, ap, ◌∙◌, subst, inl, inr, true≢false, mod-lt, arith, le-ltb, eq-eqb, ne_eqb, eqb-true}
+use Rattle.std.proofs.Common.{◌≡◌, ℕ, ◌+◌, ◌-◌, ◌*◌, ◌/◌, ◌%◌, ◌^◌, ◌<◌, ◌≤◌, min, Bool, true, false, ◌&&◌, ◌||◌, eqb, ltb, leb, ◌⊎◌, sym, refl, ap, ◌∙◌, subst, inl, inr, true≢false, mod-lt, arith, le-ltb, eq-eqb, ne_eqb, eqb-true}
 use mathlib.Core.Bool.{and-false, or-true}
 use Prim.Native.Nat.{◌∣◌}
 use native.Mathlib.Nat.{dvd_refl, dvd-zero, dvd-sub, eq-one_of_dvd-one}
-use native.Mathlib.Decide.{ℕ_discrete}
+use native.Mathlib.Decide.{ℕ_discrete, dec_le}
 use borrow.Author.Tests.{lt-leb, eqb-false}
 use Rattle.convergents.specs.Pairs.{Pair, pair, Lowest}
 use Rattle.euclid.proofs.DivisorLaws.{Common, common_next}
@@ -51,10 +51,10 @@ module _ {N D u v : ℕ} (c : Common N D u v) (some : 1 ≤ v) where
   pub rest_less : u % v < v
   rest_less = mod-lt u some
 
-  pub lowest_above : Common N D v (u % v)
+  lowest_above : Common N D v (u % v)
   lowest_above = common_next c
 
-  pub lowest_below : Common N D v (v - u % v)
+  lowest_below : Common N D v (v - u % v)
   lowest_below =
       record {
         down = λ g a b. let w = lowest_above.down g a b in (w.0, dvd-sub g w.0 w.1);
@@ -63,6 +63,13 @@ module _ {N D u v : ℕ} (c : Common N D u v) (some : 1 ≤ v) where
     where
       back : u % v < v → v - (v - u % v) ≡ u % v
       back l = omega arith
+
+  pub lowest_least : {m : ℕ} → m ≡ min (u % v) (v - u % v) → Common N D v m
+  lowest_least {m} e = go (dec_le (u % v) (v - u % v))
+    where
+      go : Dec (u % v ≤ v - u % v) → Common N D v m
+      go (yes l) = let f : u % v ≡ m = omega arith in subst (Common N D v) f lowest_above
+      go (no l) = let f : v - u % v ≡ m = omega arith in subst (Common N D v) f lowest_below
 
 module _ {N D u v : ℕ} (c : Common N D u v) where
   -- only 1 divides a 1

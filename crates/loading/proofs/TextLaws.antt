@@ -19,7 +19,7 @@ use Rattle.loading.specs.declared.line.Entry.{Entry}
 use Rattle.loading.specs.Lines.{entry_of}
 use Rattle.loading.specs.Loads.{Listing, at_end, behind_all, ended_from, with_word, load_from, load}
 use Rattle.loading.specs.Fills.{count_of}
-use Rattle.loading.specs.Steps.{begins, line_there, Breath, AtOnce, TurnIs, EndIs}
+use Rattle.loading.specs.Steps.{begins, line_there, Breath, TurnIs, EndIs}
 use Rattle.loading.specs.declared.load.Counted.{Counted}
 use Rattle.loading.specs.declared.load.Turn.{Turn}
 use Rattle.loading.proofs.LineLaws.{Taken, entry_only, line_long, there_some}
@@ -28,9 +28,9 @@ use Rattle.loading.proofs.LoadLaws.{listing, follow, load_line, load_breath}
 -- ---- a breath's line, at once
 
 module _ (text : List ℕ) (n w : ℕ) (few : n ≤ 65536) where
-  at_some : {r : ℕ} → Some r ≡ line_there text (Number n) w → Breath n text r
+  pub at_once : {r : ℕ} → Some r ≡ line_there text (Number n) w → Breath n text r
   unfolding begins
-  at_some {r} e =
+  at_once {r} e =
       let line : List ℕ = line_of (Number n) (ratio_of w) in
       let s = there_some text (Number n) w e in
       let h = and_parts (listable w) (same (take (length line) text) line) s.0 in
@@ -44,10 +44,6 @@ module _ (text : List ℕ) (n w : ℕ) (few : n ≤ 65536) where
         goes = ap (λ (u : List ℕ). load_from n (parted 10 u)) whole ∙ load_breath n w h.0 few (drop r text);
       }
 
-  pub at_once : (o : Option ℕ) → o ≡ line_there text (Number n) w → AtOnce n text o
-  at_once None e = tt
-  at_once (Some r) e = at_some e
-
 -- ---- a stop, as the functions make it or hand it on
 
 pub turn_stop : (n : ℕ) (text : List ℕ) (o : Outcome Turn) {s : Stop} → o ≡ Err s → Err s ≡ load_from n (parted 10 text) → TurnIs n text o
@@ -55,6 +51,10 @@ turn_stop n text o e h = subst (TurnIs n text) (sym e) (sym h)
 
 pub end_stop : (n : ℕ) (text : List ℕ) {s r : Stop} → s ≡ r → EndIs n text (Err r) → EndIs n text (Err s)
 end_stop n text e h t = h t ∙ ap Err (sym e)
+
+-- a breath's line
+pub turn_more : {n : ℕ} {text : List ℕ} {used : ℕ} (x : Turn) → x ≡ Turn.More used → TurnIs n text (Ok x) → Breath n text used
+turn_more {n} {text} x e h = subst (λ (y : Turn). TurnIs n text (Ok y)) e h
 
 -- ---- at the end of a text
 
@@ -185,9 +185,9 @@ module _ {text : List ℕ} {from n : ℕ} (g : Reading text from n) where
       let z : n - 1 + 0 ≡ n - 1 = omega arith in
       sym (g.whole ∙ ap (λ (o : Outcome Listing). plus (n - 1) (count_of o)) l ∙ ap (λ (i : ℕ). done (record { breaths = i; total = w })) z)
 
-  module _ {x : Turn} {used : ℕ} (h : TurnIs n (take (length text - from) (drop from text)) (Ok x)) (e : x ≡ Turn.More used) where
+  module _ {used : ℕ} (b : Breath n (take (length text - from) (drop from text)) used) where
     step : Breath n (drop from text) used
-    step = subst (λ (y : Turn). TurnIs n (drop from text) (Ok y)) e (here (Ok x) h)
+    step = subst (λ (u : List ℕ). Breath n u used) (tail_is from text) b
 
     pub reading_used : (1 ≤ used) × (from + used ≤ length text)
     reading_used = (step.some, omega (arith, step.within, length-drop from text, g.within))

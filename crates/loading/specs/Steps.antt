@@ -48,11 +48,6 @@ pub record Breath (n : ℕ) (text : List ℕ) (used : ℕ) : Type 0 where
   pub few : n ≤ 65536
   pub goes : load_from n (parted 10 text) ≡ with_word word (load_from (suc n) (parted 10 (drop used text)))
 
--- Line n is a breath's of so many bytes; or nothing is said of it.
-abbrev pub AtOnce : (n : ℕ) → List ℕ → Option ℕ → Type 0
-AtOnce n text None = Unit {0}
-AtOnce n text (Some used) = Breath n text used
-
 abbrev pub TurnIs : (n : ℕ) → List ℕ → Outcome Turn → Type 0
 TurnIs n text (Err s) = load_from n (parted 10 text) ≡ Err s
 TurnIs n text (Ok (Turn.More used)) = Breath n text used

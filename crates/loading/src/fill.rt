@@ -3,7 +3,7 @@ ghost use Rattle.std.specs.Prelude.{◌≡◌, ◌≤◌, length, take};
 ghost use Rattle.text.specs.Scan.{length_before};
 ghost use Rattle.text.specs.Stores.{put};
 ghost use Rattle.loading.specs.Loads.{load};
-ghost use Rattle.loading.specs.Steps.{end_mark, Fits, words_in, numbers_in};
+ghost use Rattle.loading.specs.Steps.{Fits, words_in, numbers_in};
 
 use crate::line::{digits, word_at};
 
@@ -15,13 +15,6 @@ const SHORTEST: usize = 4;
 // where the columns are as long as 32767/32767 and 100.0.
 const NEAR: usize = 16;
 
-// Whether a byte is a line feed, as a number.
-fn mark(b: u8) -> u32
-    ensures { result ≡ end_mark b }
-{
-    if b == b'\n' { 1 } else { 0 }
-}
-
 // How many of the first bytes stand before the line feed, all of them where it isn't there. Each byte
 // gives its bit, the first the lowest, and a 1 stands above them; no branch goes by what the bytes
 // are, so that the compiler takes all at once, and a line's length needn't be guessed.
@@ -30,12 +23,10 @@ fn near_end(bytes: &[u8]) -> usize
     ensures { result ≡ length_before 10 (take 16 bytes.now) }
 {
     let mut marks: u32 = 1;
-    let mut i = NEAR;
-    while 0 < i {
-        i -= 1;
-        marks = marks * 2 + mark(bytes[i]);
+    for i in (0..NEAR).rev() {
+        marks = marks * 2 + (bytes[i] == b'\n') as u32;
     }
-    u32::trailing_zeros(marks) as usize
+    marks.trailing_zeros() as usize
 }
 
 // Stores a listing's breath numbers and words. Its text was judged, and the lists are long enough.
@@ -45,13 +36,11 @@ pub(crate) fn fill_lists(text: &[u8], count: usize, numbers: &mut [u64], words: 
     ensures worded { words.new ≡ put words.old 0 (words_in (load text.now)) }
 {
     let mut from = 0;
-    let mut i = 0;
-    while i < count {
+    for i in 0..count {
         let word = from + digits((i + 1) as u32) + 1;
         let last = word + 8 + SHORTEST;
         numbers[i] = (i + 1) as u64;
         words[i] = word_at(text, word);
         from = last + near_end(&text[last..]) + 1;
-        i += 1;
     }
 }

@@ -5,7 +5,7 @@ ghost use Rattle.text.specs.Scan.{same, length_before};
 ghost use Rattle.text.specs.Lines.{is_name};
 ghost use Rattle.shapes.specs.Shapes.{shape_of};
 ghost use Rattle.loading.specs.Lines.{total_at, in_sequence, entry_of};
-ghost use Rattle.loading.specs.Steps.{line_there, digit_value, word_from, AtOnce};
+ghost use Rattle.loading.specs.Steps.{line_there, digit_value, word_from};
 
 use crate::listable::is_listable;
 use crate::stops::{SEQUENCE, SHAPE, WORD, stop_at};
@@ -44,22 +44,19 @@ pub(crate) fn digits(n: u32) -> usize
 fn is_number(field: &[u8], n: u32) -> bool
     ensures { result ≡ same field.now (decimal n) }
 {
-    let mut k = field.len();
+    let mut front = field;
     let mut m = n;
     while 10 <= m {
-        if k == 0 {
+        let Some((last, before)) = front.split_last() else {
+            return false;
+        };
+        if *last != b'0' + (m % 10) as u8 {
             return false;
         }
-        k -= 1;
-        if field[k] != b'0' + (m % 10) as u8 {
-            return false;
-        }
+        front = before;
         m = m / 10;
     }
-    if k != 1 {
-        return false;
-    }
-    field[0] == b'0' + m as u8
+    front.len() == 1 && front[0] == b'0' + m as u8
 }
 
 // How many bytes the line has that is printed for a name and a word, where the word is listable and
@@ -82,37 +79,6 @@ fn line_there(text: &[u8], name: Name, w: u64) -> Option<usize>
     Some(k)
 }
 
-// The first bytes of a text, as many as the longest line has.
-fn window(text: &[u8]) -> [u8; 33]
-    requires { 33 ≤ length text.now }
-    ensures { result ≡ take 33 text.now }
-{
-    let mut bytes = [0u8; 33];
-    let mut i = 0;
-    while i < 33 {
-        bytes[i] = text[i];
-        i += 1;
-    }
-    bytes
-}
-
-// The same as `line_there` where the longest line has room: the line is stored over the text's first
-// bytes, which are as they were where it stands there. What takes longest is asked last.
-fn line_in_window(text: &[u8], name: Name, w: u64) -> Option<usize>
-    requires { (is_name name ≡ true) × (33 ≤ length text.now) }
-    ensures { result ≡ line_there text.now name w }
-{
-    let mut bytes = window(text);
-    let k = put_line(&mut bytes, 0, name, Ratio::of_word(w));
-    if !is_same(&text[..33], &bytes) {
-        return None;
-    }
-    if !is_listable(w) {
-        return None;
-    }
-    Some(k)
-}
-
 // The value of a hexadecimal digit. Bit 6 tells a letter, whose lowest bits count from 1, for ten.
 fn digit_value(b: u8) -> u64
     ensures value { result ≡ digit_value b }
@@ -127,16 +93,10 @@ pub(crate) fn word_at(text: &[u8], at: usize) -> u64
     ensures { result ≡ word_from 0 (take 8 (drop at text.now)) }
 {
     let mut value: u64 = 0;
-    let mut i = 0;
-    while i < 8 {
-        value = value * 16 + digit_value(text[at + i]);
-        i += 1;
+    for b in &text[at..at + 8] {
+        value = value * 16 + digit_value(*b);
     }
     value
-}
-
-fn wide(b: u8) -> u64 {
-    b as u64
 }
 
 // Of each byte the lowest bit, and the lower half; of each two bytes the lower; of each four the lower
@@ -152,37 +112,25 @@ const LOWER_PAIRS: u64 = 281470681808895;
 const LOWER_FOUR: u64 = 4294967295;
 
 // The same, all eight digits at once. Nothing is promised of it, since its line is looked for then.
-fn guess_at(text: &[u8], at: usize) -> u64
+pub(crate) fn guess_at(text: &[u8], at: usize) -> u64
     requires { at + 8 ≤ length text.now }
 {
-    let first = wide(text[at]) << 56 | wide(text[at + 1]) << 48;
-    let second = wide(text[at + 2]) << 40 | wide(text[at + 3]) << 32;
-    let third = wide(text[at + 4]) << 24 | wide(text[at + 5]) << 16;
-    let last = wide(text[at + 6]) << 8 | wide(text[at + 7]);
-    let digits = first | second | third | last;
+    let digits = u64::from_be_bytes([
+        text[at],
+        text[at + 1],
+        text[at + 2],
+        text[at + 3],
+        text[at + 4],
+        text[at + 5],
+        text[at + 6],
+        text[at + 7],
+    ]);
     let letters = digits >> 6 & LOWEST_BITS;
-    let tens = std::num::wrapping_add_u64(letters << 3, letters);
-    let halves = std::num::wrapping_add_u64(digits & LOWER_HALVES, tens);
+    let tens = (letters << 3).wrapping_add(letters);
+    let halves = (digits & LOWER_HALVES).wrapping_add(tens);
     let bytes = (halves | halves >> 4) & LOWER_BYTES;
     let pairs = (bytes | bytes >> 8) & LOWER_PAIRS;
     (pairs | pairs >> 16) & LOWER_FOUR
-}
-
-// How many bytes breath n's line has that a text begins with. It is looked for with the word that
-// stands where it has to.
-pub(crate) fn breath_line(text: &[u8], n: u32) -> Option<usize>
-    requires { (1 ≤ n) × (n ≤ 65536) }
-    ensures { AtOnce n text.now result }
-{
-    let from = digits(n) + 1;
-    if text.len() < from + 8 {
-        return None;
-    }
-    let w = guess_at(text, from);
-    if text.len() < text::LONGEST_LINE {
-        return line_there(text, Name::Number(n), w);
-    }
-    line_in_window(text, Name::Number(n), w)
 }
 
 // What line n gives, which is named `all` and says word w: the total, or 15. As the first line: the void

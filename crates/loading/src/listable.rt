@@ -15,9 +15,8 @@ fn is_lowest(n: u32, d: u32) -> bool
     let mut v = n;
     while 1 < v {
         let above = u % v;
-        let below = v - above;
         u = v;
-        v = if above < below { above } else { below };
+        v = above.min(v - above);
     }
     (v == 1) | (u == 1)
 }

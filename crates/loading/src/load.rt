@@ -5,11 +5,13 @@ ghost use Rattle.loading.specs.Fills.{count_of, load_into, numbers_after, words_
 ghost use Rattle.loading.specs.Steps.{TurnIs, EndIs};
 
 use crate::fill::fill_lists;
-use crate::line::{Entry, breath_line, judge};
+use crate::line::{Entry, digits, guess_at, judge};
+use crate::listable::is_listable;
 use crate::stops::{SEQUENCE, SHAPE, stop_at};
+use breaths::Ratio;
 use shapes::shape_of;
 use slash::Stop;
-use text::length_before;
+use text::{Name, is_same, length_before, put_line};
 
 // The breath count, and the total's word.
 #[derive(Clone, Copy)]
@@ -63,15 +65,22 @@ fn judged_turn(text: &[u8], n: u32) -> Result<Turn, Stop>
     }
 }
 
-// What comes at line n. A breath's line as it is printed is known at once; any other is judged
-// whole, which no listing asks for more than once.
+// What comes at line n. Where the longest line has room, breath n's is looked for with the word that
+// stands where it has to: it is stored over the text's first bytes, which are as they were where it
+// stands there. What takes longest is asked last. Any other line is judged whole, which a listing asks
+// for its last ones alone.
 fn next_turn(text: &[u8], n: u32) -> Result<Turn, Stop>
     requires { (1 ≤ n) × (n ≤ 65537) }
     ensures { TurnIs n text.now result }
 {
     if n <= text::MOST_BREATHS {
-        if let Some(used) = breath_line(text, n) {
-            return Ok(Turn::More(used));
+        if let Some(window) = text.first_chunk() {
+            let w = guess_at(window, digits(n) + 1);
+            let mut bytes: [u8; 33] = *window;
+            let used = put_line(&mut bytes, 0, Name::Number(n), Ratio::of_word(w));
+            if is_same(window, &bytes) && is_listable(w) {
+                return Ok(Turn::More(used));
+            }
         }
     }
     judged_turn(text, n)

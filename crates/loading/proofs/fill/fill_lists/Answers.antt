@@ -56,12 +56,6 @@ overflow_add-from c = omega (arith, filling_used c.loop-i.invariant c.loop-i-tes
 pub overflow_add-from-in-loop-i : goal.overflow_add-from-in-loop-i
 overflow_add-from-in-loop-i c = omega (arith, filling_used c.loop-i.invariant c.loop-i-test.true _ c.digits.ensures _ c.near_end.ensures)
 
-pub overflow_add-i-in-loop-i : goal.overflow_add-i-in-loop-i
-overflow_add-i-in-loop-i c = omega arith
-
-pub loop-i-smaller : goal.loop-i-smaller
-loop-i-smaller c = omega arith
-
 pub loop-i-preserved : goal.loop-i-preserved
 loop-i-preserved c = filling_next c.loop-i.invariant c.loop-i-test.true _ c.digits.ensures _ c.near_end.ensures _ c.word_at.ensures
 

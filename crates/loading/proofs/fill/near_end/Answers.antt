@@ -1,28 +1,19 @@
-use Rattle.loading.proofs.EndLaws.{mark_small, marking_start, marking_small, marking_next, marking_end}
-use Rattle.std.proofs.Common.{arith}
+use Rattle.std.proofs.Common.{◌≡◌, ℕ, sym, refl, ap, ◌∙◌, subst, arith, ◌-◌, get_or, length-take-le}
+use Rattle.loading.proofs.EndLaws.{mark_of, mark_small, marking_start, marking_small, marking_next, marking_end}
 use lib.Count.{trailing_le}
 use Rattle.loading.proofs.fill.near_end.Goals as goal
 
 pub loop-i-init : goal.loop-i-init
 loop-i-init c = marking_start _ c.requires
 
-pub overflow_sub-i : goal.overflow_sub-i
-overflow_sub-i c = omega arith
-
 pub overflow_mul-marks : goal.overflow_mul-marks
 overflow_mul-marks c = omega (arith, marking_small c.loop-i.invariant)
 
-pub bounds-bytes-i : goal.bounds-bytes-i
-bounds-bytes-i c = omega (arith, c.loop-i.invariant.within, c.loop-i.invariant.long)
-
 pub overflow_add-marks : goal.overflow_add-marks
-overflow_add-marks c = omega (arith, marking_small c.loop-i.invariant, mark_small _ _ c.mark.ensures)
-
-pub loop-i-smaller : goal.loop-i-smaller
-loop-i-smaller c = omega arith
+overflow_add-marks c = omega (arith, marking_small c.loop-i.invariant, mark_small _ _ (mark_of (get_or c.args.bytes.now (c.loop-i.i - 1) 0)))
 
 pub loop-i-preserved : goal.loop-i-preserved
-loop-i-preserved c = marking_next c.loop-i.invariant _ (omega arith) _ c.mark.ensures
+loop-i-preserved c = marking_next c.loop-i.invariant _ (omega arith) _ (mark_of _)
 
 pub overflow_cast-result : goal.overflow_cast-result
 overflow_cast-result c = omega (arith, trailing_le 32 c.loop-i.marks)

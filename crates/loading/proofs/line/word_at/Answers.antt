@@ -1,30 +1,22 @@
+use Rattle.std.proofs.Common.{◌≡◌, ℕ, sym, refl, ap, ◌∙◌, subst, arith, length-take-le}
 use Rattle.loading.proofs.LineLaws.{reading_start, reading_small, reading_next, reading_end}
-use Rattle.std.proofs.Common.{arith}
+use Rattle.loading.specs.Steps.{word_from}
+use Rattle.std.proofs.Common.{List, ◌+◌, ◌-◌, take, drop, length}
 use Rattle.loading.proofs.line.word_at.Goals as goal
 
-pub loop-i-init : goal.loop-i-init
-loop-i-init c = reading_start _ _
+pub loop-b-init : goal.loop-b-init
+loop-b-init c = reading_start _
 
 pub overflow_mul-value : goal.overflow_mul-value
-overflow_mul-value c = omega (arith, reading_small c.loop-i.invariant c.requires (omega arith))
-
-pub overflow_add-at : goal.overflow_add-at
-overflow_add-at c = omega (arith, c.requires)
-
-pub bounds-text-at : goal.bounds-text-at
-bounds-text-at c = omega (arith, c.requires)
+overflow_mul-value c = omega (arith, reading_small c.loop-b.invariant (omega (arith, c.loop-b-test.true)))
 
 pub overflow_add-value : goal.overflow_add-value
-overflow_add-value c = omega (arith, reading_small c.loop-i.invariant c.requires (omega arith), c.digit_value.ensures.small)
+overflow_add-value c = omega (arith, reading_small c.loop-b.invariant (omega (arith, c.loop-b-test.true)), c.digit_value.ensures.small)
 
-pub overflow_add-i : goal.overflow_add-i
-overflow_add-i c = omega arith
-
-pub loop-i-smaller : goal.loop-i-smaller
-loop-i-smaller c = omega arith
-
-pub loop-i-preserved : goal.loop-i-preserved
-loop-i-preserved c = reading_next c.loop-i.invariant c.requires (omega arith) _ c.digit_value.ensures.value c.digit_value.ensures.small
+pub loop-b-preserved : goal.loop-b-preserved
+loop-b-preserved c = reading_next c.loop-b.invariant c.loop-b-test.true _ c.digit_value.ensures.value c.digit_value.ensures.small
 
 pub returns : goal.returns
-returns c = reading_end c.loop-i.invariant c.requires (omega arith)
+returns c =
+    let e : c.args.at + 8 - c.args.at ≡ 8 = omega arith in
+    reading_end c.loop-b.invariant (omega (arith, c.loop-b-test.false)) ∙ ap (λ (j : ℕ). word_from 0 (take j (drop c.args.at c.args.text.now))) e

@@ -1,6 +1,6 @@
-use Rattle.std.proofs.Common.{◌∙◌, arith}
+use Rattle.std.proofs.Common.{◌≡◌, ℕ, sym, refl, ap, ◌∙◌, subst, arith, length-take-le}
 use Rattle.slash.proofs.AnswerLaws.{passed_on}
-use Rattle.loading.proofs.TextLaws.{reading_start, reading_stopped, reading_closed, reading_used, reading_few, reading_next}
+use Rattle.loading.proofs.TextLaws.{turn_more, reading_start, reading_stopped, reading_closed, reading_used, reading_few, reading_next}
 use Rattle.loading.proofs.load.check.Goals as goal
 
 pub loop-used-init : goal.loop-used-init
@@ -11,9 +11,6 @@ slice_bounds-next_turn-count c = omega (arith, c.loop-used.invariant.within)
 
 pub slice_bounds-next_turn-start : goal.slice_bounds-next_turn-start
 slice_bounds-next_turn-start c = omega (arith, c.loop-used.invariant.within)
-
-pub slice_bounds-next_turn-end : goal.slice_bounds-next_turn-end
-slice_bounds-next_turn-end c = omega (arith, c.loop-used.invariant.within)
 
 pub next_turn-requires : goal.next_turn-requires
 next_turn-requires c = (c.loop-used.invariant.some, c.loop-used.invariant.few)
@@ -28,13 +25,13 @@ pub returns-in-Closed : goal.returns-in-Closed
 returns-in-Closed c = reading_closed c.loop-used.invariant c.in_ok-used.ensures c.in-Closed.is
 
 pub overflow_add-n : goal.overflow_add-n
-overflow_add-n c = omega (arith, reading_few c.loop-used.invariant c.in_ok-used.ensures c.in-More.is)
+overflow_add-n c = omega (arith, reading_few c.loop-used.invariant (turn_more _ c.in-More.is c.in_ok-used.ensures))
 
 pub overflow_add-from : goal.overflow_add-from
-overflow_add-from c = omega (arith, reading_used c.loop-used.invariant c.in_ok-used.ensures c.in-More.is)
+overflow_add-from c = omega (arith, reading_used c.loop-used.invariant (turn_more _ c.in-More.is c.in_ok-used.ensures))
 
 pub loop-used-smaller : goal.loop-used-smaller
-loop-used-smaller c = omega (arith, reading_used c.loop-used.invariant c.in_ok-used.ensures c.in-More.is)
+loop-used-smaller c = omega (arith, reading_used c.loop-used.invariant (turn_more _ c.in-More.is c.in_ok-used.ensures))
 
 pub loop-used-preserved : goal.loop-used-preserved
-loop-used-preserved c = reading_next c.loop-used.invariant c.in_ok-used.ensures c.in-More.is
+loop-used-preserved c = reading_next c.loop-used.invariant (turn_more _ c.in-More.is c.in_ok-used.ensures)
