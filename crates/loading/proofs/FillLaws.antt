@@ -1,10 +1,11 @@
 -- Filling the lent lists. Assumes nothing.
 -- `filling_next`, `filling_end`: what the loop over the lines comes to. `load_filled`, `load_stopped`, `load-short`: what loading answers, and what the
 -- lists are then.
-use Rattle.std.proofs.Common.{◌≡◌, ℕ, zero, suc, ◌+◌, ◌-◌, ◌/◌, ◌%◌, ◌<◌, ◌≤◌, true, ◌&&◌, leb, List, [], ◌∷◌, ◌++◌, length, take, drop, set, sym, refl, ap, ◌∙◌, append_assoc, add-one, arith, length-append, length-drop, length-set, drop-drop, take_at, drop_at, le-leb}
+use Rattle.std.proofs.Common.{◌≡◌, ℕ, zero, suc, ◌+◌, ◌-◌, ◌/◌, ◌%◌, ◌<◌, ◌≤◌, min, true, ◌&&◌, leb, List, [], ◌∷◌, ◌++◌, length, take, drop, set, sym, refl, ap, ◌∙◌, append_assoc, add-one, arith, length-append, length-drop, length-set, drop-drop, take_at, drop_at, le-leb}
 use mathlib.Core.Bool.{and-false}
 use native.Mathlib.Decide.{dec_lt, ℕ_discrete}
 use lib.Seq.{drop-append-le}
+use Rattle.std.proofs.Math.Nat.{min-le_left, min-le_right}
 use borrow.Author.Tests.{lt-leb}
 use Rattle.std.specs.Prelude.{if◌then◌else◌, Ok, Err}
 use Rattle.convergents.specs.Pairs.{Pair}
@@ -402,10 +403,16 @@ unfolding count_of
 count_stop (Err t) e = cc
 count_stop (Ok l) e = absurd (no_stop e)
 
-pub load_fits : (text : List ℕ) (c : Counted) → done c ≡ count_of (load text) → (p q : ℕ) → c.breaths ≤ p → c.breaths ≤ q → Fits (load text) c.breaths p q
-load_fits text c e p q i j =
+pub load_fits : (text : List ℕ) (c : Counted) → done c ≡ count_of (load text) → (p q : ℕ) → c.breaths ≤ min p q → Fits (load text) c.breaths p q
+load_fits text c e p q i =
     let l = count_done (load text) c e in
-    record { listing = l.listing; is = l.is; counted = l.count; numbers_fit = omega (arith, l.count); words_fit = omega (arith, l.count) }
+    record {
+      listing = l.listing;
+      is = l.is;
+      counted = l.count;
+      numbers_fit = omega (arith, l.count, min-le_left p q);
+      words_fit = omega (arith, l.count, min-le_right p q);
+    }
 
 -- what the contract says of an answer and of the lists behind it
 abbrev pub Result : (text a b a' b' : List ℕ) → Outcome Counted → Type 0
@@ -433,26 +440,21 @@ module _ (text a b : List ℕ) where
     unfolding load_into where_fits
     into = ap (λ (o : Outcome Listing). o then where_fits (length a) (length b)) given.is
 
-    module _ {s : Stop} (se : s ≡ record { number = 7; place = 0 }) where
-      seven : load_into text (length a) (length b) ≡ stop 7 0 → Result text a b a b (Err s)
-      seven i = stopped_as (ap Err se ∙ sym i)
+    pub load_short : {s : Stop} → s ≡ record { number = 7; place = 0 } → min (length a) (length b) < c.breaths → Result text a b a b (Err s)
+    load_short se l = stopped_as (ap Err se ∙ sym (go (dec_lt (length a) (length given.listing.words))))
+      where
+        go : Dec (length a < length given.listing.words) → load_into text (length a) (length b) ≡ stop 7 0
+        go (yes m) = into ∙ rw (lt-leb _ _ m) refl
+        go (no m) =
+            let k : length b < length given.listing.words = omega (arith, given.count) in
+            into ∙ rw (lt-leb _ _ k, and-false (leb (length given.listing.words) (length a))) refl
 
-      pub load_numbers : length a < c.breaths → Result text a b a b (Err s)
-      load_numbers l =
-          let m : length a < length given.listing.words = omega (arith, given.count) in
-          seven (into ∙ rw (lt-leb _ _ m) refl)
-
-      pub load_words : length b < c.breaths → Result text a b a b (Err s)
-      load_words l =
-          let m : length b < length given.listing.words = omega (arith, given.count) in
-          seven (into ∙ rw (lt-leb _ _ m, and-false (leb (length given.listing.words) (length a))) refl)
-
-    module _ (p : c.breaths ≤ length a) (q : c.breaths ≤ length b) where
+    module _ (p : c.breaths ≤ min (length a) (length b)) where
       numbers_fit : length given.listing.words ≤ length a
-      numbers_fit = omega (arith, given.count)
+      numbers_fit = omega (arith, given.count, min-le_left (length a) (length b))
 
       words_fit : length given.listing.words ≤ length b
-      words_fit = omega (arith, given.count)
+      words_fit = omega (arith, given.count, min-le_right (length a) (length b))
 
       goes_in : load_into text (length a) (length b) ≡ done given.listing
       goes_in = into ∙ rw (le-leb _ _ numbers_fit, le-leb _ _ words_fit) refl

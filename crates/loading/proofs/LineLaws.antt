@@ -1,11 +1,10 @@
 -- A line of a listing. Assumes nothing.
 -- `entry_breath`, `entry_total`: a printed line is taken, as its word. `entry_only`: and no other line is. `there_agrees`: a text begins with a
 -- printed line just where its first line, and the line feed behind it, is that line.
-use Rattle.std.proofs.Common.{◌≡◌, ℕ, zero, suc, ◌+◌, ◌-◌, ◌*◌, ◌/◌, ◌%◌, ◌^◌, ◌<◌, ◌≤◌, Bool, true, false, ◌&&◌, eqb, leb, List, [], ◌∷◌, ◌++◌, length, get_or, take, drop, set, sym, refl, ap, ◌∙◌, subst, append_assoc, add-zero, add-suc, mod-lt, pow-suc, zero-add, add-one, arith, length-append, length-set, take-append-drop, length-take, length-take-le, take_all, drop-cons, take-suc, take-take, take-suc-set, take_at, eq-eqb, ne_eqb, le-leb, leb-true}
+use Rattle.std.proofs.Common.{◌≡◌, ℕ, zero, suc, ◌+◌, ◌-◌, ◌*◌, ◌/◌, ◌%◌, ◌^◌, ◌<◌, ◌≤◌, Bool, true, false, ◌&&◌, eqb, leb, List, [], ◌∷◌, ◌++◌, length, get_or, take, drop, sym, refl, ap, ◌∙◌, subst, append_assoc, mod-lt, pow-suc, zero-add, add-one, arith, length-append, take-append-drop, length-take, length-take-le, take-suc, take-take, take_at, eq-eqb, ne_eqb, le-leb, leb-true}
 use mathlib.Core.Bool.{and-true, and-false, false≢true}
 use native.Mathlib.Nat.{pow-le-pow_right}
 use native.Mathlib.Decide.{dec_lt, ℕ_discrete}
-use lib.Seq.{take-length}
 use borrow.Author.Tests.{lt-leb, eqb-false}
 use Rattle.std.specs.Prelude.{if◌then◌else◌, Option, Some, None, Err}
 use Rattle.convergents.specs.Pairs.{differs}
@@ -368,10 +367,6 @@ there_agrees text k ke within name w = ap (λ (b : Bool). listable w && b) (same
 
 -- the answers of `line_there`
 
-not_begins : (text : List ℕ) (name : Name) (w : ℕ) → listable w ≡ false → begins text name w ≡ false
-unfolding begins
-not_begins text name w e = rw e refl
-
 pub ratio_printable : (w : ℕ) → listable w ≡ true → is_printable (ratio_of w) ≡ true
 ratio_printable w l = go (ℕ_discrete w 0)
   where
@@ -458,17 +453,6 @@ module _ (name : Name) (w : ℕ) (named : is_name name ≡ true) (o o' : List �
             let whole : take 33 text ≡ o' = same_is _ _ e in
             sym (take-take (length shown) 33 text shown_short) ∙ ap (take (length shown)) (whole ∙ window_is)
             ∙ take_at shown (drop (length shown) (take 33 text)) (length shown) refl
-
-  pub window_differs : false ≡ same o o' → None ≡ line_there text name w
-  unfolding line_there
-  window_differs d = go (listable w) refl
-    where
-      differs : same (take 33 text) o' ≡ false
-      differs = sym (d ∙ ap (λ (v : List ℕ). same v o') oe)
-
-      go : (b : Bool) → listable w ≡ b → None ≡ (if begins text name w then Some (length (line_of name (ratio_of w))) else None)
-      go true e = rw (begins_window e, differs) refl
-      go false e = rw (not_begins text name w e) refl
 
   pub window_same : true ≡ same o o' → true ≡ listable w → Some k ≡ line_there text name w
   unfolding line_there

@@ -1,7 +1,7 @@
 -- A text read line by line. Assumes nothing.
 -- `turn_breath`, `turn_total`, `turn_stopped` and those beside them: what comes at a line. `reading_next`, `reading_closed`, `reading_stopped`: what
 -- the loop over the lines comes to. `at_once`: a text that begins with a breath's printed line.
-use Rattle.std.proofs.Common.{◌≡◌, ℕ, suc, ◌+◌, ◌-◌, ◌≤◌, List, [], ◌∷◌, ◌++◌, length, take, drop, sym, refl, ap, ◌∙◌, subst, add-one, arith, length-append, length-drop, take-append-drop, drop-drop}
+use Rattle.std.proofs.Common.{◌≡◌, ℕ, suc, ◌+◌, ◌-◌, ◌<◌, ◌≤◌, List, [], ◌∷◌, ◌++◌, length, take, drop, sym, refl, ap, ◌∙◌, subst, add-one, arith, length-append, length-drop, take-append-drop, drop-drop}
 use Rattle.std.specs.Prelude.{Option, Some, None, Ok, Err}
 use Rattle.slash.specs.Answers.{Outcome, stop, done}
 use Rattle.slash.specs.declared.answer.Stop.{Stop}
@@ -19,7 +19,7 @@ use Rattle.loading.specs.declared.line.Entry.{Entry}
 use Rattle.loading.specs.Lines.{entry_of}
 use Rattle.loading.specs.Loads.{Listing, at_end, behind_all, ended_from, with_word, load_from, load}
 use Rattle.loading.specs.Fills.{count_of}
-use Rattle.loading.specs.Steps.{begins, line_there, Breath, TurnIs, EndIs}
+use Rattle.loading.specs.Steps.{begins, line_there, Breath, LineIs, TurnIs, EndIs}
 use Rattle.loading.specs.declared.load.Counted.{Counted}
 use Rattle.loading.specs.declared.load.Turn.{Turn}
 use Rattle.loading.proofs.LineLaws.{Taken, entry_only, line_long, there_some}
@@ -49,14 +49,20 @@ module _ (text : List ℕ) (n w : ℕ) (few : n ≤ 65536) where
 pub turn_stop : (n : ℕ) (text : List ℕ) (o : Outcome Turn) {s : Stop} → o ≡ Err s → Err s ≡ load_from n (parted 10 text) → TurnIs n text o
 turn_stop n text o e h = subst (TurnIs n text) (sym e) (sym h)
 
-pub end_stop : (n : ℕ) (text : List ℕ) {s r : Stop} → s ≡ r → EndIs n text (Err r) → EndIs n text (Err s)
-end_stop n text e h t = h t ∙ ap Err (sym e)
+pub end_stop : (n : ℕ) (text : List ℕ) (o : Outcome (Unit {0})) {s : Stop} → o ≡ Err s → EndIs n text (Err s) → EndIs n text o
+end_stop n text o e h = subst (EndIs n text) (sym e) h
 
 -- a breath's line
 pub turn_more : {n : ℕ} {text : List ℕ} {used : ℕ} (x : Turn) → x ≡ Turn.More used → TurnIs n text (Ok x) → Breath n text used
 turn_more {n} {text} x e h = subst (λ (y : Turn). TurnIs n text (Ok y)) e h
 
--- ---- at the end of a text
+-- ---- a line, or the end of a text
+
+pub line_some : (n : ℕ) (text : List ℕ) {k : ℕ} (o : Option ℕ) → o ≡ Some k → LineIs n text (Ok o) → (k ≡ length_before 10 text) × (k < length text)
+line_some n text o e h = subst (λ (p : Option ℕ). LineIs n text (Ok p)) e h
+
+pub line_none : (n : ℕ) (text : List ℕ) (o : Option ℕ) → o ≡ None → LineIs n text (Ok o) → (length_before 10 text ≡ length text) × (length text ≡ 0)
+line_none n text o e h = subst (λ (p : Option ℕ). LineIs n text (Ok p)) e h
 
 at_end_none : (n : ℕ) (text : List ℕ) (o : Outcome Listing) → length text ≡ 0 → at_end n text o ≡ o
 unfolding at_end
@@ -68,78 +74,78 @@ unfolding at_end
 at_end_some n [] o h = absurd (h refl)
 at_end_some n (x ∷ xs) o h = refl
 
-module _ (text : List ℕ) (k : ℕ) (ke : k ≡ length_before 10 text) where
-  module _ (e : k ≡ length text) where
-    one_part : parted 10 text ≡ text ∷ []
-    one_part = parted_none 10 text (sym ke ∙ e)
+module _ (text : List ℕ) (one : length_before 10 text ≡ length text) where
+  one_part : parted 10 text ≡ text ∷ []
+  one_part = parted_none 10 text one
 
-    module _ (n : ℕ) where
-      pub end_none : k ≡ 0 → EndIs n text (done tt)
+  module _ (n : ℕ) where
+    pub end_none : length text ≡ 0 → EndIs n text (done tt)
+    unfolding ended_from
+    end_none z t = ap (ended_from n t) one_part ∙ at_end_none n text _ z
+
+    pub turn_none : length text ≡ 0 → stop 14 n ≡ load_from n (parted 10 text)
+    unfolding load_from
+    turn_none z = sym (ap (load_from n) one_part ∙ at_end_none n text (stop 14 n) z)
+
+    module _ {s : Stop} (is : s ≡ record { number = 13; place = n }) (z : length text ≡ 0 → ⊥) where
+      pub end_unended : EndIs n text (Err s)
       unfolding ended_from
-      end_none z t = ap (ended_from n t) one_part ∙ at_end_none n text _ (sym e ∙ z)
+      end_unended t = ap (ended_from n t) one_part ∙ at_end_some n text _ z ∙ ap Err (sym is)
 
-      pub end_unended : (k ≡ 0 → ⊥) → EndIs n text (stop 13 n)
-      unfolding ended_from
-      end_unended z t = ap (ended_from n t) one_part ∙ at_end_some n text _ (λ l. z (e ∙ l))
-
-      pub turn_none : k ≡ 0 → stop 14 n ≡ load_from n (parted 10 text)
+      pub turn_unended : Err s ≡ load_from n (parted 10 text)
       unfolding load_from
-      turn_none z = sym (ap (load_from n) one_part ∙ at_end_none n text (stop 14 n) (sym e ∙ z))
+      turn_unended = ap Err is ∙ sym (ap (load_from n) one_part ∙ at_end_some n text (stop 14 n) z)
 
-      pub turn_unended : (k ≡ 0 → ⊥) → stop 13 n ≡ load_from n (parted 10 text)
-      unfolding load_from
-      turn_unended z = sym (ap (load_from n) one_part ∙ at_end_some n text (stop 14 n) (λ l. z (e ∙ l)))
+module _ (text : List ℕ) (k : ℕ) (ke : k ≡ length_before 10 text) (within : k < length text) where
+  parts : parted 10 text ≡ take k text ∷ parted 10 (behind k text)
+  parts = parted_at 10 text k ke (λ e. omega arith)
 
-  module _ (m : k ≡ length text → ⊥) where
-    parts : parted 10 text ≡ take k text ∷ parted 10 (behind k text)
-    parts = parted_at 10 text k ke m
+  -- ---- behind `all`
 
-    -- ---- behind `all`
+  module _ (n : ℕ) where
+    ended_line : (t : ℕ) → ended_from n t (parted 10 text) ≡ behind_all n (shape_of (take k text))
+    unfolding ended_from
+    ended_line t =
+        let s = parted_some 10 (behind k text) in
+        ap (ended_from n t) (parts ∙ ap (λ (l : List (List ℕ)). take k text ∷ l) s.is)
 
-    module _ (n : ℕ) where
-      ended_line : (t : ℕ) → ended_from n t (parted 10 text) ≡ behind_all n (shape_of (take k text))
-      unfolding ended_from
-      ended_line t =
-          let s = parted_some 10 (behind k text) in
-          ap (ended_from n t) (parts ∙ ap (λ (l : List (List ℕ)). take k text ∷ l) s.is)
+    pub end_other : None ≡ shape_of (take k text) → EndIs n text (stop 13 n)
+    unfolding behind_all
+    end_other e t = ended_line t ∙ ap (behind_all n) (sym e)
 
-      pub end_other : None ≡ shape_of (take k text) → EndIs n text (stop 13 n)
-      unfolding behind_all
-      end_other e t = ended_line t ∙ ap (behind_all n) (sym e)
+    pub end_line : {y : Said} → Some y ≡ shape_of (take k text) → EndIs n text (stop 14 n)
+    unfolding behind_all
+    end_line e t = ended_line t ∙ ap (behind_all n) (sym e)
 
-      pub end_line : {y : Said} → Some y ≡ shape_of (take k text) → EndIs n text (stop 14 n)
-      unfolding behind_all
-      end_line e t = ended_line t ∙ ap (behind_all n) (sym e)
+  -- ---- before it
 
-    -- ---- before it
+  module _ (n : ℕ) where
+    turn_is : (o : Outcome Entry) → o ≡ entry_of n (shape_of (take k text)) (take k text) → follow n o (parted 10 (behind k text)) ≡ load_from n (parted 10 text)
+    turn_is o h = sym (ap (load_from n) parts ∙ load_line n (take k text) (parted 10 (behind k text)) (parted_some 10 (behind k text)) o (sym h))
 
-    module _ (n : ℕ) where
-      turn_is : (o : Outcome Entry) → o ≡ entry_of n (shape_of (take k text)) (take k text) → follow n o (parted 10 (behind k text)) ≡ load_from n (parted 10 text)
-      turn_is o h = sym (ap (load_from n) parts ∙ load_line n (take k text) (parted 10 (behind k text)) (parted_some 10 (behind k text)) o (sym h))
+    pub turn_stopped : {s : Stop} → Err s ≡ entry_of n (shape_of (take k text)) (take k text) → Err s ≡ load_from n (parted 10 text)
+    turn_stopped h = turn_is _ h
 
-      pub turn_stopped : {s : Stop} → Err s ≡ entry_of n (shape_of (take k text)) (take k text) → Err s ≡ load_from n (parted 10 text)
-      turn_stopped h = turn_is _ h
+    pub turn_breath : {w : ℕ} → done (Entry.Breath w) ≡ entry_of n (shape_of (take k text)) (take k text) → Breath n text (k + 1)
+    turn_breath {w} h =
+        let t : Taken n (take k text) (Entry.Breath w) = entry_only n (shape_of (take k text)) (take k text) (Entry.Breath w) (sym h) in
+        record {
+          word = w;
+          some = omega arith;
+          within = omega (arith, before_le 10 text);
+          few = t.2;
+          goes = sym (turn_is _ h) ∙ ap (λ (u : List ℕ). with_word w (load_from (suc n) (parted 10 u))) (tail_is (k + 1) text);
+        }
 
-      pub turn_breath : {w : ℕ} → done (Entry.Breath w) ≡ entry_of n (shape_of (take k text)) (take k text) → Breath n text (k + 1)
-      turn_breath {w} h =
-          let t : Taken n (take k text) (Entry.Breath w) = entry_only n (shape_of (take k text)) (take k text) (Entry.Breath w) (sym h) in
-          record {
-            word = w;
-            some = omega arith;
-            within = omega (arith, before_le 10 text);
-            few = t.2;
-            goes = sym (turn_is _ h) ∙ ap (λ (u : List ℕ). with_word w (load_from (suc n) (parted 10 u))) (tail_is (k + 1) text);
-          }
+    module _ {w : ℕ} (h : done (Entry.Total w) ≡ entry_of n (shape_of (take k text)) (take k text)) where
+      to_end : load_from n (parted 10 text) ≡ ended_from (n + 1) w (parted 10 (behind k text))
+      to_end = sym (turn_is _ h) ∙ ap (λ (i : ℕ). ended_from i w (parted 10 (behind k text))) (sym (add-one n))
 
-      module _ {w : ℕ} (h : done (Entry.Total w) ≡ entry_of n (shape_of (take k text)) (take k text)) where
-        to_end : load_from n (parted 10 text) ≡ ended_from (n + 1) w (parted 10 (behind k text))
-        to_end = sym (turn_is _ h) ∙ ap (λ (i : ℕ). ended_from i w (parted 10 (behind k text))) (sym (add-one n))
+      pub turn_closed : EndIs (n + 1) (behind k text) (done tt) → load_from n (parted 10 text) ≡ done (record { words = []; total = w })
+      turn_closed g = to_end ∙ g w
 
-        pub turn_closed : EndIs (n + 1) (behind k text) (done tt) → load_from n (parted 10 text) ≡ done (record { words = []; total = w })
-        turn_closed g = to_end ∙ g w
-
-        pub turn_behind : {s : Stop} → EndIs (n + 1) (behind k text) (Err s) → Err s ≡ load_from n (parted 10 text)
-        turn_behind g = sym (to_end ∙ g w)
+      pub turn_behind : {s : Stop} → EndIs (n + 1) (behind k text) (Err s) → Err s ≡ load_from n (parted 10 text)
+      turn_behind g = sym (to_end ∙ g w)
 
 -- ---- all lines
 

@@ -21,7 +21,7 @@ pub(crate) enum Entry {
     Total(u64),
 }
 
-// How many digits a breath's number has.
+// How many digits a breath's number has. (By `ilog10` loading took 1 to 2 in a hundred longer.)
 pub(crate) fn digits(n: u32) -> usize
     requires { n ≤ 65536 }
     ensures { result ≡ length (decimal n) }
@@ -101,15 +101,15 @@ pub(crate) fn word_at(text: &[u8], at: usize) -> u64
 
 // Of each byte the lowest bit, and the lower half; of each two bytes the lower; of each four the lower
 // two; of eight the lower four.
-const LOWEST_BITS: u64 = 72340172838076673;
+const LOWEST_BITS: u64 = 0x0101_0101_0101_0101;
 
-const LOWER_HALVES: u64 = 1085102592571150095;
+const LOWER_HALVES: u64 = 0x0f0f_0f0f_0f0f_0f0f;
 
-const LOWER_BYTES: u64 = 71777214294589695;
+const LOWER_BYTES: u64 = 0x00ff_00ff_00ff_00ff;
 
-const LOWER_PAIRS: u64 = 281470681808895;
+const LOWER_PAIRS: u64 = 0x0000_ffff_0000_ffff;
 
-const LOWER_FOUR: u64 = 4294967295;
+const LOWER_FOUR: u64 = 0xffff_ffff;
 
 // The same, all eight digits at once. Nothing is promised of it, since its line is looked for then.
 pub(crate) fn guess_at(text: &[u8], at: usize) -> u64

@@ -4,7 +4,7 @@ ghost use Rattle.loading.specs.Listable.{listable};
 ghost use Rattle.loading.specs.Steps.{IsLowest};
 
 // The sign, the highest bit of a ratio's word.
-const SIGN: u64 = 2147483648;
+const SIGN: u64 = 0x8000_0000;
 
 // Whether only 1 divides both, by Euclid's algorithm with the rest that is nearest to 0, above it or
 // below, which takes fewer divisions.

@@ -2,7 +2,7 @@
 ghost use Rattle.std.specs.Prelude.{◌≡◌, ◌≤◌, length};
 ghost use Rattle.loading.specs.Loads.{load, Exactly};
 ghost use Rattle.loading.specs.Fills.{count_of, load_into, numbers_after, words_after};
-ghost use Rattle.loading.specs.Steps.{TurnIs, EndIs};
+ghost use Rattle.loading.specs.Steps.{LineIs, TurnIs, EndIs};
 
 use crate::fill::fill_lists;
 use crate::line::{Entry, digits, guess_at, judge};
@@ -27,17 +27,28 @@ pub(crate) enum Turn {
     Closed(u64),
 }
 
+// How many bytes the line has that a text begins with, line n, its line feed not counted; none where
+// there is no more text. Stop 13: no line feed ends it.
+fn first_line(text: &[u8], n: u32) -> Result<Option<usize>, Stop>
+    ensures { LineIs n text.now result }
+{
+    let k = length_before(text, b'\n');
+    if k < text.len() {
+        Ok(Some(k))
+    } else if k == 0 {
+        Ok(None)
+    } else {
+        Err(stop_at(SHAPE, n as u64))
+    }
+}
+
 // What comes behind `all`, from line n on: nothing, or there is a stop.
 fn behind_all(text: &[u8], n: u32) -> Result<(), Stop>
     ensures { EndIs n text.now result }
 {
-    let k = length_before(text, b'\n');
-    if k == text.len() {
-        if k == 0 {
-            return Ok(());
-        }
-        return Err(stop_at(SHAPE, n as u64));
-    }
+    let Some(k) = first_line(text, n)? else {
+        return Ok(());
+    };
     match shape_of(&text[..k]) {
         Some(_) => Err(stop_at(SEQUENCE, n as u64)),
         None => Err(stop_at(SHAPE, n as u64)),
@@ -49,13 +60,9 @@ fn judged_turn(text: &[u8], n: u32) -> Result<Turn, Stop>
     requires { (1 ≤ n) × (n ≤ 65537) }
     ensures { TurnIs n text.now result }
 {
-    let k = length_before(text, b'\n');
-    if k == text.len() {
-        if k == 0 {
-            return Err(stop_at(SEQUENCE, n as u64));
-        }
-        return Err(stop_at(SHAPE, n as u64));
-    }
+    let Some(k) = first_line(text, n)? else {
+        return Err(stop_at(SEQUENCE, n as u64));
+    };
     match judge(text, k, n)? {
         Entry::Breath(_) => Ok(Turn::More(k + 1)),
         Entry::Total(w) => {
@@ -118,10 +125,7 @@ pub fn load_text(text: &[u8], numbers: &mut [u64], words: &mut [u64]) -> Result<
     ensures exactly { Exactly text.now }
 {
     let c = check(text)?;
-    if (numbers.len() as u64) < c.breaths {
-        return Err(Stop::plain(Stop::LIST));
-    }
-    if (words.len() as u64) < c.breaths {
+    if (numbers.len().min(words.len()) as u64) < c.breaths {
         return Err(Stop::plain(Stop::LIST));
     }
     fill_lists(text, c.breaths as usize, numbers, words);

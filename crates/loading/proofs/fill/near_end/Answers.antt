@@ -1,4 +1,4 @@
-use Rattle.std.proofs.Common.{◌≡◌, ℕ, sym, refl, ap, ◌∙◌, subst, arith, ◌-◌, get_or, length-take-le}
+use Rattle.std.proofs.Common.{arith, ◌-◌, get_or}
 use Rattle.loading.proofs.EndLaws.{mark_of, mark_small, marking_start, marking_small, marking_next, marking_end}
 use lib.Count.{trailing_le}
 use Rattle.loading.proofs.fill.near_end.Goals as goal

@@ -1,4 +1,4 @@
-use Rattle.std.proofs.Common.{◌≡◌, ℕ, sym, refl, ap, ◌∙◌, subst, arith, ne_eqb, length-take-le}
+use Rattle.std.proofs.Common.{sym, refl, ◌∙◌, arith, ne_eqb}
 use Rattle.loading.proofs.LineLaws.{number_none, number_differs, number_before, number_long, number_one}
 use Rattle.loading.proofs.line.is_number.Goals as goal
 

@@ -1,7 +1,7 @@
-use Rattle.std.proofs.Common.{◌≡◌, ℕ, sym, refl, ap, ◌∙◌, subst, arith, length-take-le}
+use Rattle.std.proofs.Common.{◌≡◌, ℕ, ap, ◌∙◌, arith}
 use Rattle.loading.proofs.LineLaws.{reading_start, reading_small, reading_next, reading_end}
 use Rattle.loading.specs.Steps.{word_from}
-use Rattle.std.proofs.Common.{List, ◌+◌, ◌-◌, take, drop, length}
+use Rattle.std.proofs.Common.{◌+◌, ◌-◌, take, drop}
 use Rattle.loading.proofs.line.word_at.Goals as goal
 
 pub loop-b-init : goal.loop-b-init

@@ -1,4 +1,4 @@
-use Rattle.std.proofs.Common.{◌≡◌, ℕ, sym, refl, ap, ◌∙◌, subst, arith, length-take-le}
+use Rattle.std.proofs.Common.{arith}
 use Rattle.loading.proofs.ListableLaws.{lowest_start, rest_less, lowest_least, lowest_end}
 use Rattle.loading.proofs.listable.is_lowest.Goals as goal
 

@@ -1,4 +1,4 @@
-use Rattle.std.proofs.Common.{◌≡◌, ℕ, sym, refl, ap, ◌∙◌, subst, arith, length-take-le}
+use Rattle.std.proofs.Common.{◌∙◌, arith}
 use Rattle.slash.proofs.AnswerLaws.{passed_on}
 use Rattle.loading.proofs.TextLaws.{turn_more, reading_start, reading_stopped, reading_closed, reading_used, reading_few, reading_next}
 use Rattle.loading.proofs.load.check.Goals as goal

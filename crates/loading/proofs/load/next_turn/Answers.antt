@@ -1,4 +1,4 @@
-use Rattle.std.proofs.Common.{◌≡◌, ℕ, sym, refl, ap, ◌∙◌, subst, arith, length-take-le}
+use Rattle.std.proofs.Common.{arith}
 use Rattle.loading.proofs.LineLaws.{digits_most, window_same}
 use Rattle.loading.proofs.TextLaws.{at_once}
 use Rattle.text.proofs.LineLaws.{number_name}
