@@ -3,8 +3,8 @@
 -- night behind its piece, and calls in a row make the listing.
 use mathlib.Core.Path.{◌≡◌, refl, sym, ap, ◌∙◌, subst}
 use mathlib.Core.Bool.{Bool, true, false, ◌&&◌}
-use mathlib.Core.List.{List, [], ◌∷◌}
-use Prim.Native.Nat.{ℕ, ◌+◌, ◌*◌, ◌%◌, ◌^◌, ◌≤◌, ◌<◌}
+use mathlib.Core.List.{List}
+use Prim.Native.Nat.{ℕ, ◌≤◌}
 use native.Mathlib.Omega.{arith}
 use lib.Dec.{eqb, ltb}
 use lib.ListN.{get_or}
@@ -43,7 +43,7 @@ state_again night e r =
     let begun : (eqb night.rate.ticks 0 && (eqb night.breath 0 && (eqb night.sums.inspiration 0 && eqb night.sums.whole 0))) ≡ false =
     and_middle (eqb night.rate.ticks 0) (eqb night.breath 0) _ (some_not night.breath breath)
     in
-    from_rate _ _ _ _ begun (omega arith) night.rate (rate_done night.rate.ticks r)
+    sym (from_rate night.rate.ticks night.breath night.sums.inspiration night.sums.whole begun (omega arith) night.rate (rate_done night.rate.ticks r))
   where
     and_middle : (a b c : Bool) → b ≡ false → (a && (b && c)) ≡ false
     and_middle true b c h = rw h refl

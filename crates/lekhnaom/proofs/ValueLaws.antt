@@ -1,19 +1,13 @@
 -- A word's value as numbers in a row. Assumes nothing.
 -- `number_again`: the numbers of a value with its mark tell just that. `normalised_again`: so, what is read of a word is written as the word
 -- normalised. `good_status`, `refused_status`: what a call returns of a word that is checked.
-use mathlib.Core.Path.{◌≡◌, refl, sym, ap, ◌∙◌, subst}
-use mathlib.Core.Bool.{Bool, true, false, ◌||◌}
-use mathlib.Core.List.{List, [], ◌∷◌}
+use mathlib.Core.Path.{◌≡◌, refl, sym, ap, ◌∙◌}
+use mathlib.Core.Bool.{Bool, true, false}
 use Prim.Native.Nat.{ℕ, ◌+◌, ◌*◌, ◌%◌, ◌^◌}
-use lib.Dec.{eqb, ltb}
-use lib.ListN.{get_or}
-use borrow.Author.Tests.{ne_eqb}
 use Rattle.std.specs.Prelude.{Ok, Err}
-use Rattle.slash.specs.Answers.{Outcome, stop, done, ◌then◌, WhenDone}
-use Rattle.slash.specs.Best.{BestForValue}
+use Rattle.slash.specs.Answers.{Outcome, done, ◌then◌}
 use Rattle.slash.specs.Bits.{bit_of}
 use Rattle.slash.specs.Formats.{known, check_format}
-use Rattle.slash.specs.Numbers.{parts_of}
 use Rattle.slash.specs.Reading.{checked_word, check_word, number_of, read_word}
 use Rattle.slash.specs.Writing.{word_for, write_number}
 use Rattle.slash.proofs.AnswerLaws.{done_inj}
@@ -24,14 +18,12 @@ use Rattle.slash.proofs.WritingLaws.{write_done}
 use Rattle.unary.specs.Operations.{exact_parts, exact_zero, exact_infinity, exact_unary, is_unary, unary_result, check_unary, unary_word}
 use Rattle.slash.specs.declared.format.Format.{Format}
 use Rattle.slash.specs.declared.number.Number.{Number}
-use Rattle.slash.specs.declared.number.Parts.{Parts}
 use Rattle.slash.specs.declared.number.Value.{Value}
 use Rattle.slash.specs.declared.number.Value.TheVariants.{Fraction, Zero, Infinity, NotANumber}
 use Rattle.slash.specs.declared.answer.Stop.{Stop}
 use Rattle.slash.specs.declared.reading.GoodWord.{GoodWord}
-use Rattle.vectors.specs.Each.{vector_after}
 use Rattle.lekhnaom.specs.Status.{status}
-use Rattle.lekhnaom.specs.Values.{class_of, numbers_of, read_numbers, value_from, number_from, number_at, write_told, BestForTold}
+use Rattle.lekhnaom.specs.Values.{class_of, numbers_of, value_from, number_from, number_at, write_told}
 
 -- ---- a word that is checked
 

@@ -5,7 +5,7 @@
 
 mod again;
 
-ghost use Rattle.std.specs.Prelude.{◌≡◌, ◌≤◌, IfOk, length};
+ghost use Rattle.std.specs.Prelude.{◌≡◌, ◌≤◌, length};
 
 use std::io::{self, Read, Write};
 
@@ -19,19 +19,29 @@ fn text_buffer() -> [u8; 3145728]
     [0; 3145728]
 }
 
-// Reads until there is no room left or the input ends, and answers how many bytes it read.
-fn read_text<R: Read>(input: &mut R, text: &mut [u8]) -> io::Result<usize>
-    ensures { IfOk result (λ n. n ≤ length text.new) }
+// Reads until there is no room left or the input ends, which a read that fails passes for, and answers
+// how many bytes it read.
+fn read_text<R: Read>(input: &mut R, text: &mut [u8]) -> usize
+    ensures { result ≤ length text.new }
 {
     let mut length = 0;
     while length < text.len() {
-        let n = input.read(&mut text[length..])?;
+        let n = input.read(&mut text[length..]).unwrap_or(0);
         if n == 0 {
             break;
         }
         length += n;
     }
-    Ok(length)
+    length
+}
+
+// Whether the input goes on behind what was read of it. Where room was left it has ended, or a read
+// failed: one read more tells which.
+fn is_cut<R: Read>(input: &mut R, is_full: bool) -> bool {
+    match input.read(&mut [0; 1]) {
+        Ok(n) => 0 < n && !is_full,
+        Err(_) => true,
+    }
 }
 
 // Writes the listing of the words that a text holds, or the line of its stop.
@@ -49,10 +59,12 @@ fn relist<W: Write>(text: &[u8], output: &mut W) -> io::Result<()> {
 
 fn main(rt: HostRuntime) {
     let mut text = text_buffer();
-    let Ok(length) = read_text(&mut rt.stdin(), &mut text) else {
+    let mut input = rt.stdin();
+    let length = read_text(&mut input, &mut text);
+    if is_cut(&mut input, length == text.len()) {
         let _ = eprintln!(rt; "the listing cannot be read");
         return;
-    };
+    }
     if relist(&text[..length], &mut rt.stdout()).is_err() {
         let _ = eprintln!(rt; "the listing cannot be written");
     }
