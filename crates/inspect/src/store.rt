@@ -28,11 +28,12 @@ pub(crate) fn put_number(out: &mut Text, n: u64)
     put_text(out, &digits[..count]);
 }
 
+// (`char::from_digit` answers an Option of a char: to take a byte of it is no plainer.)
 fn digit(d: u64) -> u8
     requires { d < 16 }
     ensures { result ≡ hex_digit d }
 {
-    if d < 10 { b'0' + d as u8 } else { 87 + d as u8 }
+    if d < 10 { b'0' + d as u8 } else { b'a' - 10 + d as u8 }
 }
 
 // The last `count` digits of n in a base.

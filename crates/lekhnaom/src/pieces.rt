@@ -11,7 +11,7 @@ use crate::status::stop_status;
 use breaths::{Rate, Sums};
 use listing::{End, Night, RatedNight};
 
-// The stop of a state that no recording has.
+// The stop of a state that no recording has, a number in C.
 const NO_NIGHT: u64 = 255;
 
 // The night that a state tells, if it tells one.

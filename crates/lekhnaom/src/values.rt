@@ -11,7 +11,7 @@ ghost use Rattle.lekhnaom.specs.Values.{class_of, numbers_of, read_numbers, valu
 use crate::status::{status, stop_status, store};
 use slash::{Format, Number, Parts, Stop, Value};
 
-// The classes of values.
+// The classes of values, numbers in C.
 const FRACTION: u64 = 1;
 
 const ZERO: u64 = 2;

@@ -61,6 +61,7 @@ pub extern "C" fn slash_unary(kind: u64, k: u64, code: u64, operand: u64, word: 
     store(unary::unary(f, code, operand), word)
 }
 
+// An order, a number in C.
 #[tactic(auto, unfolding(arithmetic::specs::Comparison::order_number))]
 fn order_number(o: Order) -> u64
     ensures { result ≡ order_number o }

@@ -7,7 +7,8 @@ use std::env::FillError;
 use std::rt::Env;
 
 fn main(rt: HostRuntime) {
-    // Only that an argument is there is asked: one that has no room is there too.
+    // Only that an argument is there is asked: one that has no room is there too, and so is one that is no
+    // text, which `env::args` would refuse.
     if !matches!(rt.arg(1, &mut [0; 1]), Err(FillError::NotPresent)) {
         let _ = eprintln!(rt; "usage: night < recording > listing");
         return;

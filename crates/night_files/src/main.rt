@@ -74,7 +74,7 @@ fn list_file<W: Write>(rt: &HostRuntime, name: &[u8], to: &mut W) {
     show_end(rt, run);
 }
 
-// Each argument's file.
+// Each argument's file. (`env::args` would refuse them all where one is no text.)
 fn list_files<W: Write>(rt: &HostRuntime, to: &mut W) {
     let mut name = [0u8; 4096];
     for i in 1..usize::MAX {

@@ -38,12 +38,9 @@ fits_all text = go (load text) refl
     go (Err s) e = refl
     go (Ok l) e = rw (le-leb (length l.words) 65536 (load_only text l e).0.few) refl
 
-module _ (text o : List ℕ) (p q : ℕ) (pe : p ≡ 65536) (qe : q ≡ 65536) {r : Outcome Counted} (h : r ≡ count_of (load_into text p q)) where
-  into : load_into text p q ≡ load text
-  into = ap (λ (i : ℕ). load_into text i q) pe ∙ ap (load_into text 65536) qe ∙ fits_all text
-
+module _ (text o : List ℕ) {r : Outcome Counted} (h : r ≡ count_of (load_into text 65536 65536)) where
   loaded : r ≡ count_of (load text)
-  loaded = h ∙ ap count_of into
+  loaded = h ∙ ap count_of (fits_all text)
 
   pub again_stopped : {s : Stop} → r ≡ Err s
       → (Err s ≡ length_of (printed_again text)) × ((o ≡ list_after (printed_again text) o) × SameAgain text)
@@ -53,7 +50,7 @@ module _ (text o : List ℕ) (p q : ℕ) (pe : p ≡ 65536) (qe : q ≡ 65536) {
       let m : printed_again text ≡ Err s = ap (λ (y : Outcome Listing). y then λ l. done (printed l.words l.total)) (sym stopped) in
       (ap length_of (sym m), (ap (λ (y : Outcome (List ℕ)). list_after y o) (sym m), again_same text))
 
-  module _ (c : Counted) (e : r ≡ Ok c) (old new : List ℕ) (we : new ≡ words_after (load_into text p q) old) where
+  module _ (c : Counted) (e : r ≡ Ok c) (old new : List ℕ) (we : new ≡ words_after (load_into text 65536 65536) old) where
     record Words : Type 0 where
       words : List ℕ
       last : ℕ
@@ -72,7 +69,7 @@ module _ (text o : List ℕ) (p q : ℕ) (pe : p ≡ 65536) (qe : q ≡ 65536) {
         go (Ok l) i g =
             let d : c ≡ record { breaths = length l.words; total = l.total } = done_inj g in
             let n : c.breaths ≡ length l.words = ap (λ (x : Counted). x.breaths) d in
-            let list : new ≡ at_start l.words old = we ∙ ap (λ (x : Outcome Listing). words_after x old) (into ∙ i) in
+            let list : new ≡ at_start l.words old = we ∙ ap (λ (x : Outcome Listing). words_after x old) (fits_all text ∙ i) in
             record {
               words = l.words;
               last = l.total;

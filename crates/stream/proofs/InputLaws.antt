@@ -1,20 +1,17 @@
--- Bytes read behind those that a buffer has, and moved to its front. Assumes nothing.
--- `turn_listed`, `turn_read`: a turn that takes a line, or reads on, leaves fewer turns. `moving_end`: the bytes not used stand at the front.
-use mathlib.Core.Path.{◌≡◌, refl, sym, ap, ◌∙◌}
+-- Bytes read behind those that a buffer has. Assumes nothing.
+-- `turn_listed`, `turn_read`: a turn that takes a line, or reads on, leaves fewer turns. `of_read`: what follows of the count of a read.
+use mathlib.Core.Path.{◌≡◌, refl}
 use mathlib.Core.Bool.{Bool, true, false}
 use mathlib.Core.Logic.{⊎_elim}
-use mathlib.Core.List.{List, ◌++◌}
+use mathlib.Core.List.{List}
 use lib.Dec.{eqb}
 use borrow.Author.Tests.{eqb-false}
 use Prim.Native.Nat.{ℕ, ◌+◌, ◌-◌, ◌*◌, ◌≤◌, ◌<◌}
 use native.Mathlib.Omega.{arith}
-use native.Mathlib.Nat.{zero-add}
-use lib.ListN.{length, take, drop, length-take, length-drop}
-use lib.Seq.{length-take-le, paste}
+use lib.ListN.{length, length-take}
 use Rattle.std.specs.Prelude.{Result, Ok, Err, IfOk, MatchResult}
 use Rattle.io.specs.Counts.{IsPrefixLen}
 use Rattle.listing.proofs.PieceLaws.{Waits, GoesOn}
-use Rattle.text.specs.Stores.{at_start}
 
 pub counts : (n : ℕ) (xs : List ℕ) → n ≤ length xs → IsPrefixLen n xs
 counts n xs h = (h, omega (arith, length-take n xs, h))
@@ -55,9 +52,3 @@ module _ (line : ℕ) (bs : List ℕ) (last : Bool) (used line' : ℕ) (g : Goes
 
   pub waits_on : used ≤ 0 → Waits bs last
   waits_on h = ⊎_elim (λ a. absurd (omega (arith, a.1))) (λ w. w.1) g
-
--- the bytes from a place up to another, copied to the front
-pub moved : (bs : List ℕ) (from end : ℕ) → from ≤ end → end ≤ length bs → paste bs 0 (drop from bs) (end - from) ≡ at_start (take (end - from) (drop from bs)) bs
-moved bs from end h l =
-    let long : length (take (end - from) (drop from bs)) ≡ 0 + (end - from) = length-take-le (end - from) (drop from bs) (omega (arith, length-drop from bs)) ∙ sym (zero-add (end - from)) in
-    ap (λ (k : ℕ). take (end - from) (drop from bs) ++ drop k bs) (sym long)

@@ -42,6 +42,7 @@ pub fn list<R: Read, W: Write>(from: &mut R, to: &mut W) -> Result<(), Cut>
     ensures told { Tells (run_outcome result) }
     ensures written { IfSome (R.remaining from.old) (λ bytes. Adds result (listing_of bytes) (W.contents to.old) (W.contents to.new)) }
 {
+    // The first `filled` wait to be listed. (A vector of a fixed capacity lends no free place to read into.)
     let mut bytes = [0; 16384];
     // Where its room runs out, the next turn goes on.
     let mut text = [0; 32768];

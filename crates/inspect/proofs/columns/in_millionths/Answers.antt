@@ -1,17 +1,8 @@
 use Rattle.inspect.proofs.ColumnLaws.{millionths_down, millionths_up}
 use Prim.Native.Nat.{◌*◌}
-use native.Mathlib.Nat.{div-le_self, mod-lt}
+use native.Mathlib.Nat.{mod-lt}
 use native.Mathlib.Omega.{arith}
 use Rattle.inspect.proofs.columns.in_millionths.Goals as goal
-
-pub overflow_mul-twice-2 : goal.overflow_mul-twice-2
-overflow_mul-twice-2 c = omega (arith, mod-lt (1000000 * c.args.n) c.requires.2, c.requires.1)
-
-pub overflow_add-twice : goal.overflow_add-twice
-overflow_add-twice c = omega (arith, mod-lt (1000000 * c.args.n) c.requires.2, c.requires.1)
-
-pub overflow_add-result : goal.overflow_add-result
-overflow_add-result c = omega (arith, div-le_self (1000000 * c.args.n) c.args.d, c.requires.0)
 
 pub returns-then-d-twice : goal.returns-then-d-twice
 -- (That the rest is below d isn't needed here: it keeps the numbers at which a wrong program is refused to a divisor and a rest of it.)

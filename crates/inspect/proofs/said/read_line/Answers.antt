@@ -1,6 +1,4 @@
 use Rattle.inspect.proofs.SaidLaws.{line_format, line_unended, line_word}
-use lib.Seq.{length-take-le}
-use mathlib.Core.Path.{sym}
 use Rattle.inspect.proofs.said.read_line.Goals as goal
 
 pub returns-then-line-gt-LONGEST_LINE : goal.returns-then-line-gt-LONGEST_LINE
@@ -8,9 +6,6 @@ returns-then-line-gt-LONGEST_LINE c = line_unended _ c.if-line-gt-LONGEST_LINE.t
 
 pub returns-then-i-line : goal.returns-then-i-line
 returns-then-i-line c = line_word _ _ c.length_before-i.ensures.defined c.if-line-gt-LONGEST_LINE.false c.if-i-line.true c.read_word.ensures
-
-pub slice_bounds-read_format-end : goal.slice_bounds-read_format-end
-slice_bounds-read_format-end c = sym (length-take-le _ _ c.length_before-i.ensures.within)
 
 pub returns : goal.returns
 returns c = line_format _ _ c.length_before-i.ensures.defined c.if-line-gt-LONGEST_LINE.false c.if-i-line.false c.read_format.ensures

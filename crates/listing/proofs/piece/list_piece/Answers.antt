@@ -12,9 +12,6 @@ returns-then-not-is_rated c =
     let both = (piece_promised _ _ c.in-Rated.is _ _ _ _ _ (piece_none _ _ _ _ (sym c.is_rated.ensures ∙ c.if-not-is_rated.true))) in
     record { answered = both.0; stored = both.1.0; untouched = both.1.1.0; listing = both.1.1.1.0; best = both.1.1.1.1.0; ended = both.1.1.1.1.1 }
 
-pub put_lines-requires : goal.put_lines-requires
-put_lines-requires c = sym c.is_rated.ensures ∙ c.if-not-is_rated.false
-
 pub returns : goal.returns
 returns c =
     let both = (piece_promised _ _ c.in-Rated.is _ _ _ _ _ (c.put_lines.ensures.answered, c.put_lines.ensures.stored)) in

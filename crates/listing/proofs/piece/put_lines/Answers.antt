@@ -1,4 +1,4 @@
-use Rattle.listing.proofs.StepLaws.{piecing_start, piecing_long, piecing_closed, piecing_stopped, piecing_used, piecing_again, piecing_open}
+use Rattle.listing.proofs.StepLaws.{piecing_start, piecing_closed, piecing_stopped, piecing_used, piecing_again, piecing_open}
 use Rattle.listing.proofs.NightLaws.{real_night}
 use native.Mathlib.Omega.{arith}
 use Rattle.std.specs.Prelude.{Ok}
@@ -7,21 +7,6 @@ use Rattle.listing.proofs.piece.put_lines.Goals as goal
 
 pub loop-entry-init : goal.loop-entry-init
 loop-entry-init c = piecing_start _ _ _ _ c.requires
-
-pub slice_bounds-is_sure-count : goal.slice_bounds-is_sure-count
-slice_bounds-is_sure-count c = omega (arith, c.loop-entry.invariant.within)
-
-pub slice_bounds-is_sure-start : goal.slice_bounds-is_sure-start
-slice_bounds-is_sure-start c = omega (arith, c.loop-entry.invariant.within)
-
-pub overflow_sub-out : goal.overflow_sub-out
-overflow_sub-out c = omega (arith, piecing_long c.loop-entry.invariant, c.loop-entry.invariant.fits)
-
-pub slice_bounds-next_breath-count : goal.slice_bounds-next_breath-count
-slice_bounds-next_breath-count c = omega (arith, c.loop-entry.invariant.within)
-
-pub slice_bounds-next_breath-start : goal.slice_bounds-next_breath-start
-slice_bounds-next_breath-start c = omega (arith, c.loop-entry.invariant.within)
 
 pub with_line-next-requires : goal.with_line-next-requires
 with_line-next-requires c = real_night _ c.loop-entry.invariant.real

@@ -12,12 +12,6 @@ use Rattle.stream.proofs.run.list.Goals as goal
 pub loop-bytes-init : goal.loop-bytes-init
 loop-bytes-init g c = (search rules, search rules, omega arith, begun_night, λ all e. begun all _ _ e)
 
-pub slice_bounds-bytes-end : goal.slice_bounds-bytes-end
-slice_bounds-bytes-end g c = c.loop-bytes.invariant.2
-
-pub slice_bounds-list_piece-end : goal.slice_bounds-list_piece-end
-slice_bounds-list_piece-end g c = sym (length-take-le c.loop-bytes.filled c.loop-bytes.bytes c.loop-bytes.invariant.2)
-
 pub slice_bounds-text-end : goal.slice_bounds-text-end
 slice_bounds-text-end g c = (piece_answer _ _ _ c.loop-bytes.text _ _ c.loop-bytes.invariant.3 (c.list_piece-piece.ensures.answered, c.list_piece-piece.ensures.stored)).1
 

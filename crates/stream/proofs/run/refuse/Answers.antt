@@ -1,30 +1,16 @@
-use Rattle.text.proofs.LineLaws.{refused_within}
-use lib.Seq.{length-take-le}
-use mathlib.Core.Path.{◌≡◌, refl, sym, ◌∙◌, subst}
+use mathlib.Core.Path.{◌≡◌, sym, ◌∙◌, subst}
 use mathlib.Core.List.{List}
 use Prim.Native.Nat.{ℕ}
 use lib.ListN.{take}
 use Rattle.std.specs.Io.KnownBytes.{Appends}
 use Rattle.text.specs.Lines.{refused_line}
 use Rattle.stream.proofs.WrittenLaws.{on_ok, front}
-use mathlib.Core.Logic.{inl, inr}
 use Rattle.stream.proofs.run.refuse.Goals as goal
 
-pub slice_bounds-line-end : goal.slice_bounds-line-end
-slice_bounds-line-end g c = refused_within _ _ _ _ _ (c.refused_line-length.ensures.counted, c.refused_line-length.ensures.stored)
-
-pub slice_bounds-write_all-end : goal.slice_bounds-write_all-end
-slice_bounds-write_all-end g c = sym (length-take-le _ _ (refused_within _ _ _ _ _ (c.refused_line-length.ensures.counted, c.refused_line-length.ensures.stored)))
-
-pub returns-then-is_ok-clause-ends : goal.returns-then-is_ok-clause-ends
-returns-then-is_ok-clause-ends g c = inl refl
-
+-- (The check finds this alone; written out, it refuses a wrong program by what is false of it.)
 pub returns-then-is_ok-clause-written : goal.returns-then-is_ok-clause-written
 returns-then-is_ok-clause-written g c = λ _.
     let told : take c.refused_line-length.result c.refused_line-length.new.line ≡ refused_line c.args.stop.number c.args.stop.place =
     front _ _ _ _ c.refused_line-length.ensures.counted c.refused_line-length.ensures.stored in
     subst (λ (t : List ℕ). Appends (g.W.Write.contents c.args.to.now) (g.W.Write.contents c.write_all.new.self) t) told
     (on_ok c.write_all.result (sym c.is_ok.ensures.value ∙ c.if-is_ok.true) c.write_all.ensures.bytes)
-
-pub returns-clause-ends : goal.returns-clause-ends
-returns-clause-ends g c = inr refl
