@@ -18,7 +18,7 @@ use Rattle.vectors.specs.Places.{Operands, places, same_length}
 use Rattle.vectors.specs.Checks.{check_operands, checked_pairs}
 use Rattle.slash.proofs.AnswerLaws.{no_stop, passed_on, plain_stop, then_stop}
 use Rattle.slash.proofs.FormatLaws.{format_good, check_known}
-use Rattle.vectors.proofs.EachLaws.{each_stopped, each_done}
+use Rattle.vectors.proofs.EachLaws.{stop_back, done_back, unwrapped, each_stopped, each_done}
 use Rattle.vectors.proofs.CheckLaws.{pairs_all}
 use Rattle.arithmetic.specs.Operations.{is_binary, binary_word}
 use Rattle.arithmetic.specs.Each.{binary_each, BestBinary}
@@ -50,17 +50,6 @@ pub binary_agrees : (f : Format) (code : ℕ) → known f ≡ true → is_binary
 unfolding check_operands
 binary_agrees f code h i x = binary_stop_only f code x.left x.right h i
 
--- an answer by what is told of it
-stop_back : {s : Stop} (o : Outcome (List ℕ)) → Err s ≡ stop_only o → Err s ≡ o
-unfolding stop_only
-stop_back (Err t) e = ap (λ (r : Stop). Err r) cc
-stop_back (Ok ws) e = absurd (no_stop e)
-
-done_back : (o : Outcome (List ℕ)) (old new : List ℕ) → done tt ≡ stop_only o → new ≡ vector_after o old → done new ≡ o
-unfolding stop_only vector_after
-done_back (Err t) old new e n = absurd (no_stop (sym e))
-done_back (Ok ws) old new e n = ap done n
-
 module _ (f : Format) (code : ℕ) (left right out : List ℕ) where
   module _ (h : known f ≡ true) (i : is_binary code ≡ true) (e : length left ≡ length right) (g : length left ≡ length out) (res : Outcome (Unit {0})) (re : res ≡ checked_pairs f left right) where
     pub binary_each_stopped : (s : Stop) → res ≡ Err s → Err s ≡ binary_each f code left right out
@@ -81,12 +70,8 @@ module _ (f : Format) (code : ℕ) (left right out : List ℕ) where
 
 -- what is stored at a place
 pub stored_at : (f : Format) (code : ℕ) (x : Operands) (o : Outcome ℕ) → o ≡ binary_word f code x.left x.right → (w : ℕ) → w ≡ result_unwrap_or o 0 → w ≡ binary_in f code x
-unfolding binary_in or_zero
-stored_at f code x o e w h = h ∙ go o ∙ ap or_zero e
-  where
-    go : (p : Outcome ℕ) → result_unwrap_or p 0 ≡ or_zero p
-    go (Ok v) = refl
-    go (Err s) = refl
+unfolding binary_in
+stored_at f code x o e w h = unwrapped o e h
 
 -- what `binary_each` is proved by
 pub ruleset steps = (passed_on, plain_stop, check_known, no_operation, code_known, code_is, binary_each_format, binary_each_code, binary_each_length, binary_each_stopped, binary_each_done, binary_each_best)

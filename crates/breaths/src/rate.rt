@@ -18,7 +18,7 @@ impl Rate {
 
     pub const MOST: u64 = 4096;
 
-    // The number of the stop for any other rate.
+    // The number of the stop for any other rate: a number, as `Stop` holds one.
     pub const REFUSED: u64 = 19;
 
     pub fn make(ticks: u64) -> Result<Rate, Stop>

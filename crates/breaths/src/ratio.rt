@@ -5,7 +5,8 @@ ghost use Rattle.breaths.specs.Ratios.{ratio_format, word_of, ratio_of, parts_ra
 use crate::proportion::proportion_word;
 use slash::Format;
 
-// The word, or none where there is nothing to take the ratio of.
+// The word, or that there is nothing to take a ratio of. No Option: a void breath is an answer of its own,
+// with a word that is stored for it and a line of its own, and these are methods.
 #[derive(Clone, Copy)]
 pub enum Ratio {
     Void,

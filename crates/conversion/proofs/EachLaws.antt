@@ -18,7 +18,7 @@ use Rattle.vectors.specs.Places.{same_length}
 use Rattle.vectors.specs.Checks.{checked_words}
 use Rattle.slash.proofs.AnswerLaws.{no_stop, passed_on, plain_stop, then_stop, then_done}
 use Rattle.slash.proofs.FormatLaws.{format_good, check_known}
-use Rattle.vectors.proofs.EachLaws.{each_stopped, each_done}
+use Rattle.vectors.proofs.EachLaws.{stop_back, done_back, each_stopped, each_done}
 use Rattle.vectors.proofs.CheckLaws.{words_all}
 use Rattle.conversion.specs.Conversion.{convert_word}
 use Rattle.conversion.specs.Each.{convert_each, BestConverted}
@@ -43,17 +43,6 @@ module _ (f g : Format) (operand out : List ℕ) where
       unfolding convert_each same_length
       convert_each_all e = rw (format_good f h, format_good g i, eq-eqb _ _ e) refl
 
--- an answer by what is told of it
-stop_back : {s : Stop} (o : Outcome (List ℕ)) → Err s ≡ stop_only o → Err s ≡ o
-unfolding stop_only
-stop_back (Err t) e = ap (λ (r : Stop). Err r) cc
-stop_back (Ok ws) e = absurd (no_stop e)
-
-done_back : (o : Outcome (List ℕ)) (old new : List ℕ) → done tt ≡ stop_only o → new ≡ vector_after o old → done new ≡ o
-unfolding stop_only vector_after
-done_back (Err t) old new e n = absurd (no_stop (sym e))
-done_back (Ok ws) old new e n = ap done n
-
 module _ (f g : Format) (operand out : List ℕ) where
   module _ (h : known f ≡ true) (i : known g ≡ true) (e : length operand ≡ length out) (res : Outcome (Unit {0})) (re : res ≡ checked_words f operand) where
     pub convert_each_stopped : (s : Stop) → res ≡ Err s → Err s ≡ convert_each f g operand out
@@ -71,15 +60,6 @@ module _ (f g : Format) (operand out : List ℕ) where
 
       pub convert_each_best : EachPlace (BestConverted f g) operand new
       convert_each_best = made.1.1
-
--- what is stored at a place
-pub stored_at : (f g : Format) (w : ℕ) (o : Outcome ℕ) → o ≡ convert_word f g w → (v : ℕ) → v ≡ result_unwrap_or o 0 → v ≡ or_zero (convert_word f g w)
-unfolding or_zero
-stored_at f g w o e v h = h ∙ go o ∙ ap or_zero e
-  where
-    go : (p : Outcome ℕ) → result_unwrap_or p 0 ≡ or_zero p
-    go (Ok u) = refl
-    go (Err s) = refl
 
 -- what `convert_each` is proved by
 pub ruleset steps = (passed_on, plain_stop, check_known, convert_each_source, convert_each_target, convert_each_length, convert_each_stopped, convert_each_done, convert_each_best)

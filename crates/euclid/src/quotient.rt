@@ -1,5 +1,6 @@
 // The partial quotients of a word's finite absolute value: their count alone, and they themselves in a
-// lent list. No word's parts take more than 32 bits.
+// lent list. No word's parts take more than 32 bits. (An iterator over the quotients would serve `store` and
+// `are_more` alone, and take more lines than the division that both write.)
 ghost use Rattle.std.specs.Prelude.{◌≡◌, ◌++◌, ◌≤◌, ltb, length, drop};
 ghost use Rattle.slash.specs.Answers.{done, ◌then◌};
 ghost use Rattle.euclid.specs.Quotients.{count_alone, count_in, stored_in, word_quotients, quotient_count, quotients_after};

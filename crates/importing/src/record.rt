@@ -103,7 +103,7 @@ pub(crate) fn read_record(bytes: &[u8]) -> Result<Imported, Stop>
     }
 }
 
-// Its word, or 0 where it is refused.
+// Its word, or 0 where it is refused: none is when words are stored, since all records were checked before.
 pub(crate) fn word_of(bytes: &[u8]) -> u64
     requires { 12 ≤ length bytes.now }
     ensures { result ≡ or_zero (record_word (record_of bytes.now)) }

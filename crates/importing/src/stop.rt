@@ -1,4 +1,4 @@
-// The numbers of the stops that records can cause, besides `Stop::LENGTH`.
+// The numbers of the stops that records can cause, besides `Stop::LENGTH`. (Numbers, as `Stop` holds one.)
 
 // A byte count not a multiple of 12.
 pub(crate) const BYTES: u64 = 16;

@@ -8,6 +8,8 @@ ghost use Rattle.inspect.specs.Steps.{Room, Added, column, stored_columns};
 use crate::store::{Text, put_digits, put_number, put_text};
 use slash::Parts;
 
+// (It and `put_mark` differ in two words alone, and so do their definitions: one for both would be handed
+// the words.)
 fn put_sign(out: &mut Text, negative: bool)
     requires { Room out.old.items (column (sign_text negative)) }
     ensures { Added out.old.items (column (sign_text negative)) out.new.items }

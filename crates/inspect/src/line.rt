@@ -8,7 +8,7 @@ use crate::store::{Text, put_refused};
 use crate::word::put_word;
 use slash::{Format, Stop};
 
-// A line that is too long, or isn't ended.
+// What is refused besides is printed by a number too, as a stop is. A line that is too long, or isn't ended.
 const UNENDED: u64 = 9;
 
 // A line that is neither a format's nor a word's.

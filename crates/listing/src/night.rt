@@ -4,7 +4,8 @@ ghost use Rattle.listing.specs.Nights.{rated, with_line, is_rated};
 
 use breaths::{Breath, Rate, Sums};
 
-// Nothing of it is read yet, or its rate line is.
+// Nothing of it is read yet, or its rate line is. No Option: a night that is begun isn't missing, and C is
+// handed it as four zeros.
 #[derive(Clone, Copy)]
 pub enum Night {
     Begun,

@@ -13,7 +13,7 @@ use slash::Stop;
 use text::{Name, length_before, put_line};
 
 // How a piece ends: the listing goes on; it is whole; a line was refused; or the night was none of a
-// recording.
+// recording. No Result: a piece that a bad line ends has used and stored bytes too.
 #[derive(Clone, Copy)]
 pub enum End {
     Open,
@@ -61,7 +61,8 @@ fn left_to_next(used: usize, end: End) -> End
     }
 }
 
-// Stores the lines of a night's next breaths, each as it is read, while they are sure and have room.
+// Stores the lines of a night's next breaths, each as it is read, while they are sure and have room. (`from`
+// goes on by hand, since it is also what the piece used.)
 fn put_lines(night: RatedNight, bytes: &[u8], last: bool, out: &mut [u8]) -> Piece
     requires { is_rated night ≡ true }
     ensures answered { result ≡ answer_of (piece_of (Night.Rated night) bytes.now last (length out.old)) }

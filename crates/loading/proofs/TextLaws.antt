@@ -1,5 +1,5 @@
 -- A text read line by line. Assumes nothing.
--- `turn_breath`, `turn_total`, `turn_stopped` and those beside them: what comes at a line. `reading_next`, `reading_closed`, `reading_stopped`: what
+-- `turn_breath`, `turn_closed`, `turn_stopped` and those beside them: what comes at a line. `reading_next`, `reading_closed`, `reading_stopped`: what
 -- the loop over the lines comes to. `at_once`: a text that begins with a breath's printed line.
 use Rattle.std.proofs.Common.{◌≡◌, ℕ, suc, ◌+◌, ◌-◌, ◌<◌, ◌≤◌, List, [], ◌∷◌, ◌++◌, length, take, drop, sym, refl, ap, ◌∙◌, subst, add-one, arith, length-append, length-drop, take-append-drop, drop-drop}
 use Rattle.std.specs.Prelude.{Option, Some, None, Ok, Err}
@@ -20,6 +20,7 @@ use Rattle.loading.specs.Lines.{entry_of}
 use Rattle.loading.specs.Loads.{Listing, at_end, behind_all, ended_from, with_word, load_from, load}
 use Rattle.loading.specs.Fills.{count_of}
 use Rattle.loading.specs.Steps.{begins, line_there, Breath, LineIs, TurnIs, EndIs}
+use Rattle.loading.specs.declared.first.Line.{Line}
 use Rattle.loading.specs.declared.load.Counted.{Counted}
 use Rattle.loading.specs.declared.load.Turn.{Turn}
 use Rattle.loading.proofs.LineLaws.{Taken, entry_only, line_long, there_some}
@@ -58,11 +59,19 @@ turn_more {n} {text} x e h = subst (λ (y : Turn). TurnIs n text (Ok y)) e h
 
 -- ---- a line, or the end of a text
 
-pub line_some : (n : ℕ) (text : List ℕ) {k : ℕ} (o : Option ℕ) → o ≡ Some k → LineIs n text (Ok o) → (k ≡ length_before 10 text) × (k < length text)
-line_some n text o e h = subst (λ (p : Option ℕ). LineIs n text (Ok p)) e h
+-- what comes at a line, by the line's own text and number
+module _ (n : ℕ) (text : List ℕ) {line : Line} (o : Option Line) (e : o ≡ Some line) (h : LineIs n text (Ok o)) where
+  pub line_some : (line.text.now ≡ text) × (line.number ≡ n)
+  line_some = subst (λ (p : Option Line). LineIs n text (Ok p)) e h
 
-pub line_none : (n : ℕ) (text : List ℕ) (o : Option ℕ) → o ≡ None → LineIs n text (Ok o) → (length_before 10 text ≡ length text) × (length text ≡ 0)
-line_none n text o e h = subst (λ (p : Option ℕ). LineIs n text (Ok p)) e h
+  pub line_end : (end : Outcome (Unit {0})) {s : Stop} → end ≡ Err s → EndIs n line.text.now (Err s) → EndIs n text end
+  line_end end {s} x g = end_stop n text end x (subst (λ (u : List ℕ). EndIs n u (Err s)) line_some.0 g)
+
+  pub line_turn : (turn : Outcome Turn) → TurnIs line.number line.text.now turn → TurnIs n text turn
+  line_turn turn g = subst (λ (i : ℕ). TurnIs i text turn) line_some.1 (subst (λ (u : List ℕ). TurnIs line.number u turn) line_some.0 g)
+
+pub line_none : (n : ℕ) (text : List ℕ) (o : Option Line) → o ≡ None → LineIs n text (Ok o) → (length_before 10 text ≡ length text) × (length text ≡ 0)
+line_none n text o e h = subst (λ (p : Option Line). LineIs n text (Ok p)) e h
 
 at_end_none : (n : ℕ) (text : List ℕ) (o : Outcome Listing) → length text ≡ 0 → at_end n text o ≡ o
 unfolding at_end

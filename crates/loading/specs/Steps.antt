@@ -1,5 +1,5 @@
 -- For the code and the proofs alone: what the functions that read a text and fill the lists promise.
-use Rattle.std.specs.Prelude.{◌≡◌, ℕ, suc, ◌+◌, ◌*◌, ◌/◌, ◌%◌, ◌<◌, ◌≤◌, Bool, true, false, ◌&&◌, Option, Some, None, Ok, Err, List, [], ◌∷◌, length, take, drop, ◌==◌}
+use Rattle.std.specs.Prelude.{◌≡◌, ℕ, suc, ◌+◌, ◌*◌, ◌/◌, ◌%◌, ◌≤◌, Bool, true, false, ◌&&◌, Option, Some, None, Ok, Err, List, [], ◌∷◌, length, take, drop, ◌==◌}
 use Rattle.std.specs.Prelude.{if◌then◌else◌}
 use Rattle.convergents.specs.Pairs.{Lowest}
 use Rattle.slash.specs.Answers.{Outcome, done, ◌then◌}
@@ -10,6 +10,7 @@ use Rattle.text.specs.declared.line.Name.{Name}
 use Rattle.loading.specs.Listable.{listable}
 use Rattle.loading.specs.Loads.{Listing, with_word, load_from, ended_from}
 use Rattle.loading.specs.Fills.{up_from}
+use Rattle.loading.specs.declared.first.Line.{Line}
 use Rattle.loading.specs.declared.load.Turn.{Turn}
 
 -- ---- a word
@@ -48,11 +49,11 @@ pub record Breath (n : ℕ) (text : List ℕ) (used : ℕ) : Type 0 where
   pub few : n ≤ 65536
   pub goes : load_from n (parted 10 text) ≡ with_word word (load_from (suc n) (parted 10 (drop used text)))
 
--- A text begins with line n, of so many bytes and a line feed; or it has no byte; or that line isn't ended (stop 13).
-abbrev pub LineIs : (n : ℕ) → List ℕ → Outcome (Option ℕ) → Type 0
+-- A text begins with line n; or it has no byte; or that line isn't ended (stop 13).
+abbrev pub LineIs : (n : ℕ) → List ℕ → Outcome (Option Line) → Type 0
 LineIs n text (Err s) = (s ≡ record { number = 13; place = n }) × (length_before 10 text ≡ length text) × (length text ≡ 0 → ⊥)
 LineIs n text (Ok None) = (length_before 10 text ≡ length text) × (length text ≡ 0)
-LineIs n text (Ok (Some k)) = (k ≡ length_before 10 text) × (k < length text)
+LineIs n text (Ok (Some line)) = (line.text.now ≡ text) × (line.number ≡ n)
 
 abbrev pub TurnIs : (n : ℕ) → List ℕ → Outcome Turn → Type 0
 TurnIs n text (Err s) = load_from n (parted 10 text) ≡ Err s

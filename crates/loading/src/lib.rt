@@ -3,6 +3,7 @@
 #![tactic(auto)]
 
 mod fill;
+mod first;
 mod line;
 mod listable;
 mod load;

@@ -1,12 +1,13 @@
 // A line of a listing: what it gives.
-ghost use Rattle.std.specs.Prelude.{◌≡◌, ◌+◌, ◌<◌, ◌≤◌, true, length, take, drop};
+ghost use Rattle.std.specs.Prelude.{◌≡◌, ◌+◌, ◌≤◌, true, length, take, drop};
 ghost use Rattle.text.specs.Numbers.{decimal};
-ghost use Rattle.text.specs.Scan.{same, length_before};
+ghost use Rattle.text.specs.Scan.{same};
 ghost use Rattle.text.specs.Lines.{is_name};
 ghost use Rattle.shapes.specs.Shapes.{shape_of};
 ghost use Rattle.loading.specs.Lines.{total_at, in_sequence, entry_of};
 ghost use Rattle.loading.specs.Steps.{line_there, digit_value, word_from};
 
+use crate::first::Line;
 use crate::listable::is_listable;
 use crate::stops::{SEQUENCE, SHAPE, WORD, stop_at};
 use breaths::Ratio;
@@ -133,51 +134,58 @@ pub(crate) fn guess_at(text: &[u8], at: usize) -> u64
     (pairs | pairs >> 16) & LOWER_FOUR
 }
 
-// What line n gives, which is named `all` and says word w: the total, or 15. As the first line: the void
-// total of a listing of no breaths, or 14.
-fn total_at(text: &[u8], k: usize, w: u64, n: u32) -> Result<Entry, Stop>
-    requires { (k ≡ length_before 10 text.now) × (k < length text.now) }
-    ensures { result ≡ total_at n (take k text.now) w }
-{
-    if n == 1 {
-        return match line_there(text, Name::All, 0) {
-            Some(_) => Ok(Entry::Total(0)),
-            None => Err(stop_at(SEQUENCE, n as u64)),
-        };
+impl Line<'_> {
+    // A stop at its number.
+    fn stop(self, number: u64) -> Stop
+        ensures { result ≡ record { number = number; place = self.entry.number } }
+    {
+        stop_at(number, self.number as u64)
     }
-    match line_there(text, Name::All, w) {
-        Some(_) => Ok(Entry::Total(w)),
-        None => Err(stop_at(WORD, n as u64)),
-    }
-}
 
-// What line n gives, which has the shape and says x.
-fn in_sequence(text: &[u8], k: usize, x: Said, n: u32) -> Result<Entry, Stop>
-    requires { (k ≡ length_before 10 text.now) × (k < length text.now) × (x.name ≤ k) × (1 ≤ n) }
-    ensures { result ≡ in_sequence n (take k text.now) (take x.name (take k text.now)) x.word }
-{
-    if is_same(&text[..x.name], b"all") {
-        return total_at(text, k, x.word, n);
+    // What it gives, which is named `all` and says word w: the total, or 15. As the first line: the void
+    // total of a listing of no breaths, or 14.
+    fn total(self, w: u64) -> Result<Entry, Stop>
+        ensures { result ≡ total_at self.entry.number (take self.entry.end self.entry.text.now) w }
+    {
+        if self.number == 1 {
+            return match line_there(self.text, Name::All, 0) {
+                Some(_) => Ok(Entry::Total(0)),
+                None => Err(self.stop(SEQUENCE)),
+            };
+        }
+        match line_there(self.text, Name::All, w) {
+            Some(_) => Ok(Entry::Total(w)),
+            None => Err(self.stop(WORD)),
+        }
     }
-    if text::MOST_BREATHS < n {
-        return Err(stop_at(SEQUENCE, n as u64));
-    }
-    if !is_number(&text[..x.name], n) {
-        return Err(stop_at(SEQUENCE, n as u64));
-    }
-    match line_there(text, Name::Number(n), x.word) {
-        Some(_) => Ok(Entry::Breath(x.word)),
-        None => Err(stop_at(WORD, n as u64)),
-    }
-}
 
-// What line n gives, before `all`: the text's first k bytes, which a line feed follows.
-pub(crate) fn judge(text: &[u8], k: usize, n: u32) -> Result<Entry, Stop>
-    requires { (k ≡ length_before 10 text.now) × (k < length text.now) × (1 ≤ n) }
-    ensures { result ≡ entry_of n (shape_of (take k text.now)) (take k text.now) }
-{
-    match shape_of(&text[..k]) {
-        Some(x) => in_sequence(text, k, x, n),
-        None => Err(stop_at(SHAPE, n as u64)),
+    // What it gives, which has the shape and says x.
+    fn in_sequence(self, x: Said) -> Result<Entry, Stop>
+        requires { x.name ≤ self.end }
+        ensures { result ≡ in_sequence self.entry.number (take self.entry.end self.entry.text.now) (take x.name (take self.entry.end self.entry.text.now)) x.word }
+    {
+        if is_same(&self.text[..x.name], b"all") {
+            return self.total(x.word);
+        }
+        if text::MOST_BREATHS < self.number {
+            return Err(self.stop(SEQUENCE));
+        }
+        if !is_number(&self.text[..x.name], self.number) {
+            return Err(self.stop(SEQUENCE));
+        }
+        match line_there(self.text, Name::Number(self.number), x.word) {
+            Some(_) => Ok(Entry::Breath(x.word)),
+            None => Err(self.stop(WORD)),
+        }
+    }
+
+    // What it gives, before `all`.
+    pub(crate) fn judge(self) -> Result<Entry, Stop>
+        ensures { result ≡ entry_of self.entry.number (shape_of (take self.entry.end self.entry.text.now)) (take self.entry.end self.entry.text.now) }
+    {
+        match shape_of(&self.text[..self.end]) {
+            Some(x) => self.in_sequence(x),
+            None => Err(self.stop(SHAPE)),
+        }
     }
 }

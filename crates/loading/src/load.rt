@@ -5,7 +5,8 @@ ghost use Rattle.loading.specs.Fills.{count_of, load_into, numbers_after, words_
 ghost use Rattle.loading.specs.Steps.{LineIs, TurnIs, EndIs};
 
 use crate::fill::fill_lists;
-use crate::line::{Entry, digits, guess_at, judge};
+use crate::first::Line;
+use crate::line::{Entry, digits, guess_at};
 use crate::listable::is_listable;
 use crate::stops::{SEQUENCE, SHAPE, stop_at};
 use breaths::Ratio;
@@ -27,15 +28,20 @@ pub(crate) enum Turn {
     Closed(u64),
 }
 
-// How many bytes the line has that a text begins with, line n, its line feed not counted; none where
-// there is no more text. Stop 13: no line feed ends it.
-fn first_line(text: &[u8], n: u32) -> Result<Option<usize>, Stop>
+// The line that a text begins with, line n; none where there is no more text. Stop 13: no line feed
+// ends it.
+fn first_line(text: &[u8], n: u32) -> Result<Option<Line<'_>>, Stop>
+    requires { 1 ≤ n }
     ensures { LineIs n text.now result }
 {
-    let k = length_before(text, b'\n');
-    if k < text.len() {
-        Ok(Some(k))
-    } else if k == 0 {
+    let end = length_before(text, b'\n');
+    if end < text.len() {
+        Ok(Some(Line {
+            text,
+            number: n,
+            end,
+        }))
+    } else if end == 0 {
         Ok(None)
     } else {
         Err(stop_at(SHAPE, n as u64))
@@ -44,12 +50,13 @@ fn first_line(text: &[u8], n: u32) -> Result<Option<usize>, Stop>
 
 // What comes behind `all`, from line n on: nothing, or there is a stop.
 fn behind_all(text: &[u8], n: u32) -> Result<(), Stop>
+    requires { 1 ≤ n }
     ensures { EndIs n text.now result }
 {
-    let Some(k) = first_line(text, n)? else {
+    let Some(line) = first_line(text, n)? else {
         return Ok(());
     };
-    match shape_of(&text[..k]) {
+    match shape_of(&line.text[..line.end]) {
         Some(_) => Err(stop_at(SEQUENCE, n as u64)),
         None => Err(stop_at(SHAPE, n as u64)),
     }
@@ -60,13 +67,13 @@ fn judged_turn(text: &[u8], n: u32) -> Result<Turn, Stop>
     requires { (1 ≤ n) × (n ≤ 65537) }
     ensures { TurnIs n text.now result }
 {
-    let Some(k) = first_line(text, n)? else {
+    let Some(line) = first_line(text, n)? else {
         return Err(stop_at(SEQUENCE, n as u64));
     };
-    match judge(text, k, n)? {
-        Entry::Breath(_) => Ok(Turn::More(k + 1)),
+    match line.judge()? {
+        Entry::Breath(_) => Ok(Turn::More(line.end + 1)),
         Entry::Total(w) => {
-            behind_all(&text[k + 1..], n + 1)?;
+            behind_all(&line.text[line.end + 1..], line.number + 1)?;
             Ok(Turn::Closed(w))
         }
     }

@@ -1,4 +1,4 @@
-// The stops of a listing's lines.
+// The stops of a listing's lines, by number, as `Stop` holds them.
 ghost use Rattle.std.specs.Prelude.{◌≡◌};
 
 use slash::Stop;

@@ -146,6 +146,7 @@ impl Recipe {
 
     // The piece that has begun is repeated until it stands there as often as it is to stand.
     pub(crate) fn end_piece(&mut self, alloc: Global) -> Result<(), AllocError> {
+        // It is never behind the end: that is said again where the bounds are proved.
         let start = self.start.min(self.bytes.len());
         if self.count == 0 {
             self.bytes.truncate(start);

@@ -104,7 +104,8 @@ fn from_ticks(
     Ok(Entry { breath, used })
 }
 
-// What the line says, its line feed taken away, that used so many bytes.
+// What the line says, its line feed taken away, that used so many bytes. (Where there is no tab,
+// `length_before` answers the length, as the definition does: text's clause.)
 fn read_fields(used: usize, line: &[u8]) -> Result<Entry, u64>
     ensures { result ≡ from_fields used (parted 9 line.now) }
 {

@@ -1,4 +1,6 @@
-// How long a breath's line is, found without its numbers: reading a recording through needs no more.
+// How long a breath's line is, found without its numbers: reading a recording through needs no more. (The
+// functions of `line` that are like these make the numbers too. One for both would be told whether to make
+// them, and each clause would speak of both.)
 ghost use Rattle.std.specs.Prelude.{◌+◌, ◌≤◌, length};
 ghost use Rattle.recording.specs.Steps.{DigitCount, TickEndFound, LineLengthFound};
 

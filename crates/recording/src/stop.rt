@@ -1,4 +1,5 @@
-// The numbers of the stops that a recording can cause, but 19, which is `Rate::REFUSED`.
+// The numbers of the stops that a recording can cause, but 19, which is `Rate::REFUSED`. (Numbers, as
+// `Stop` holds one.)
 
 // Breath 65,537 begins.
 pub(crate) const BREATHS: u64 = 8;

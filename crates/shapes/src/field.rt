@@ -41,7 +41,8 @@ fn is_place(field: &[u8]) -> bool
     field.len() == 1 && are_digits(field)
 }
 
-// No second slash need be looked for: a whole number has none.
+// No second slash need be looked for: a whole number has none. (It and `is_decimal` differ in the byte and in
+// what follows it, which is all that either says.)
 pub(crate) fn is_fraction(field: &[u8]) -> bool
     ensures { result ≡ is_fraction field.now }
 {

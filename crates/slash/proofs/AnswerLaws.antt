@@ -1,7 +1,6 @@
 -- Outcomes, by their cases. Assumes nothing.
 -- `then_stop`, `then_done`: a stop ends the steps; a step that is done goes on to the next. `checked_stop`, `checked_made`: the same of a call
--- that is a check first and then makes a word. `plain_stop`: `Stop::plain` names place 0. `completion_stop`, `written_stop` and their like: what
--- an answer says, by its case.
+-- that is a check first and then makes a word. `plain_stop`: `Stop::plain` names place 0. `passed_on`: what `?` hands on.
 use mathlib.Core.Path.{◌≡◌, refl, sym, ap, ap₂, ◌∙◌, subst}
 use mathlib.Core.Bool.{Bool, true, false, ◌&&◌, false≢true}
 use Prim.Native.Nat.{ℕ, ◌≤◌}

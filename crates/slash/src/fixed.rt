@@ -26,7 +26,7 @@ fn parts_value(negative: bool, n: u64, d: u64) -> Value
             }
         } else {
             Value::Fraction(Parts {
-                negative: negative,
+                negative,
                 numerator: n,
                 denominator: d,
             })

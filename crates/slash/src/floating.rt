@@ -21,7 +21,7 @@ fn fraction(negative: bool, e: u64, f: u64) -> Value
         Value::Zero(negative)
     } else {
         Value::Fraction(Parts {
-            negative: negative,
+            negative,
             numerator: n,
             denominator: f - ((n - 1) << e),
         })

@@ -16,7 +16,7 @@ pub const LONGEST_LINE: usize = 33;
 // The most breaths of a listing.
 pub const MOST_BREATHS: u32 = 65536;
 
-// What a line begins with: a breath's number, or `all`.
+// What a line begins with: a breath's number, or `all`. No Option: `all` is a name too.
 #[derive(Clone, Copy)]
 pub enum Name {
     Number(u32),

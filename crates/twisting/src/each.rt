@@ -15,37 +15,37 @@ use slash::{Format, Stop};
 // them, so that what is joined is too large where one word's is. No branch goes by a word, so that the
 // compiler takes several at once. (Promised is that all are good where it says so, and not that it
 // says so wherever they are: that would cost time and no answer.)
-fn are_good(l: Layout, operand: &[u64]) -> bool
-    ensures { result ≡ true → AllGood l.k operand.now }
+fn are_good(layout: Layout, operand: &[u64]) -> bool
+    ensures { result ≡ true → AllGood layout.k operand.now }
 {
     let mut above = 0;
     let mut next = 0;
     for w in operand {
-        let a = *w >> (l.k - 1);
+        let a = *w >> (layout.k - 1);
         above |= a;
-        next |= l.raised_next(a);
+        next |= layout.raised_next(a);
     }
-    (above <= 4 * l.positions + 3) & (next <= l.positions)
+    (above <= 4 * layout.positions + 3) & (next <= layout.positions)
 }
 
 // What `vectors::check_words` tells, which is asked only where there may be a bad word: for its stop.
-fn check_all(f: Format, l: Layout, operand: &[u64]) -> Result<(), Stop>
-    requires { (known f ≡ true) × (is_fixed f ≡ false) × (l.k ≡ f.k) }
+fn check_all(f: Format, layout: Layout, operand: &[u64]) -> Result<(), Stop>
+    requires { (known f ≡ true) × (is_fixed f ≡ false) × (layout.k ≡ f.k) }
     ensures { result ≡ checked_words f operand.now }
 {
-    if are_good(l, operand) {
+    if are_good(layout, operand) {
         return Ok(());
     }
     vectors::check_words(f, operand)
 }
 
 // The words have been checked.
-fn store_rearranged(way: Way, l: Layout, operand: &[u64], out: &mut [u64])
+fn store_rearranged(way: Way, layout: Layout, operand: &[u64], out: &mut [u64])
     requires { length operand.now ≡ length out.old }
-    ensures { out.new ≡ map (rearranged (way_of way) l.k) operand.now }
+    ensures { out.new ≡ map (rearranged (way_of way) layout.k) operand.now }
 {
     for (i, w) in operand.iter().enumerate() {
-        out[i] = l.rearranged_word(way, *w);
+        out[i] = layout.rearranged_word(way, *w);
     }
 }
 
@@ -57,9 +57,9 @@ fn rearrange_each(way: Way, f: Format, operand: &[u64], out: &mut [u64]) -> Resu
     if operand.len() != out.len() {
         return Err(Stop::plain(Stop::LENGTH));
     }
-    let l = Layout::new(f.k);
-    check_all(f, l, operand)?;
-    store_rearranged(way, l, operand, out);
+    let layout = Layout::new(f.k);
+    check_all(f, layout, operand)?;
+    store_rearranged(way, layout, operand, out);
     Ok(())
 }
 

@@ -22,16 +22,16 @@ fn rearrange_word(way: Way, f: Format, w: u64) -> Result<u64, Stop>
     ensures { result ≡ rearrange (way_of way) f w }
 {
     check_floating(f)?;
-    let l = Layout::new(f.k);
+    let layout = Layout::new(f.k);
     let above = w >> (f.k - 1);
-    if 4 * l.positions + 3 < above {
+    if 4 * layout.positions + 3 < above {
         return Err(Stop::plain(Stop::WIDTH));
     }
-    let e = l.parting(above);
+    let e = layout.parting(above);
     if f.k - 2 < e {
         return Err(Stop::plain(Stop::SLASH));
     }
-    Ok(l.with_new_field(way, e, w))
+    Ok(layout.with_new_field(way, e, w))
 }
 
 // A plain word of a floating format as the twisted one.

@@ -24,12 +24,6 @@ use Rattle.unary.specs.Operations.{is_unary, unary_word}
 use Rattle.unary.specs.Each.{unary_each, BestUnary}
 use Rattle.unary.proofs.OperationLaws.{unary_stop_only, unary_best}
 
--- the word that is stored
-pub unwrapped : (o : Outcome ℕ) {p : Outcome ℕ} {r : ℕ} → o ≡ p → r ≡ result_unwrap_or o 0 → r ≡ or_zero p
-unfolding or_zero
-unwrapped (Err s) e h = h ∙ ap or_zero e
-unwrapped (Ok w) e h = h ∙ ap or_zero e
-
 -- what is said of a vector form's answer that hands a stop on
 pub handed_on : (o : Outcome (List ℕ)) (P : Unit {0} → Type 0) {r : Outcome (Unit {0})} {s : Stop} {old : List ℕ} → r ≡ Err s
     → (Err s ≡ stop_only o) × ((old ≡ vector_after o old) × Unit {0}) → (r ≡ stop_only o) × ((old ≡ vector_after o old) × WhenDone r P)

@@ -10,7 +10,8 @@ ghost use Rattle.unary.specs.Each.{unary_each, BestUnary};
 use crate::operation::{is_unary, unary_word};
 use slash::{Format, Stop};
 
-// The words have been checked: none is 0 for a stop.
+// The words have been checked: none is 0 for a stop. (`conversion` has the same loop: one for both would take
+// the operation as a closure, whose contract is longer than the loop.)
 fn store_unary(f: Format, code: u64, operand: &[u64], out: &mut [u64])
     requires { (known f ≡ true) × (is_unary code ≡ true) × (length operand.now ≡ length out.old) }
     ensures { out.new ≡ map (λ x. or_zero (unary_word f code x)) operand.now }

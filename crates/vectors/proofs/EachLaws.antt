@@ -1,6 +1,7 @@
 -- An operation at each place, by a check of all places and then a store at each. Assumes nothing.
 -- `stop_each`: the operation at each place stops as the check of the words does. `each_words`: where that finds all good, the result is the word
--- of each place. `each_stopped`, `each_done`: the answers of a vector form. `storing_next`, `storing_end`: a loop that stores.
+-- of each place. `each_stopped`, `each_done`: the answers of a vector form. `storing_next`, `storing_end`: a loop that stores. `unwrapped`: what
+-- it stores at a place.
 use mathlib.Core.Path.{◌≡◌, refl, sym, ap, ◌∙◌, subst}
 use mathlib.Core.List.{List, [], ◌∷◌, ◌++◌, map, append_assoc, append-nil}
 use Prim.Native.Nat.{ℕ, zero, suc, ◌+◌, ◌≤◌, ◌<◌}
@@ -18,6 +19,7 @@ use Rattle.vectors.specs.Places.{operands, places}
 use Rattle.vectors.specs.Checks.{checks}
 use Rattle.vectors.specs.Steps.{Storing}
 use Rattle.std.specs.Prelude.{Ok, Err}
+use Rattle.std.specs.Result.{result_unwrap_or}
 
 -- ---- the operands at place i and after
 
@@ -56,6 +58,23 @@ stop_word : {B : Type 0} (o : Outcome B) (g : B → List ℕ) → stop_only (o t
 unfolding stop_only
 stop_word (Err t) g = refl
 stop_word (Ok x) g = refl
+
+-- an answer by what is told of it
+pub stop_back : {s : Stop} (o : Outcome (List ℕ)) → Err s ≡ stop_only o → Err s ≡ o
+unfolding stop_only
+stop_back (Err t) e = ap (λ (r : Stop). Err r) cc
+stop_back (Ok ws) e = absurd (no_stop e)
+
+pub done_back : (o : Outcome (List ℕ)) (old new : List ℕ) → done tt ≡ stop_only o → new ≡ vector_after o old → done new ≡ o
+unfolding stop_only vector_after
+done_back (Err t) old new e n = absurd (no_stop (sym e))
+done_back (Ok ws) old new e n = ap done n
+
+-- the word that is stored
+pub unwrapped : (o : Outcome ℕ) {p : Outcome ℕ} {r : ℕ} → o ≡ p → r ≡ result_unwrap_or o 0 → r ≡ or_zero p
+unfolding or_zero
+unwrapped (Err s) e h = h ∙ ap or_zero e
+unwrapped (Ok w) e h = h ∙ ap or_zero e
 
 module _ {A : Type 0} where
   -- ---- the check, a place at a time

@@ -18,11 +18,11 @@ returns-then-operand-out c =
     let both = (stopped_before _ _ (plain_stop _ 3 c.plain.ensures (each_length _ _ _ _ (sym c.in_ok-check_floating.was ∙ c.check_floating.ensures) c.if-operand-out.true))) in
     record { answered = both.0; stored = both.1 }
 
-pub new-l-requires : goal.new-l-requires
-new-l-requires c = let k = floating_k _ (sym c.in_ok-check_floating.was ∙ c.check_floating.ensures) in (k.0, k.1)
+pub new-layout-requires : goal.new-layout-requires
+new-layout-requires c = let k = floating_k _ (sym c.in_ok-check_floating.was ∙ c.check_floating.ensures) in (k.0, k.1)
 
 pub check_all-requires : goal.check_all-requires
-check_all-requires c = let is = floating_is _ (sym c.in_ok-check_floating.was ∙ c.check_floating.ensures) in (is.0, is.1, c.new-l.ensures)
+check_all-requires c = let is = floating_is _ (sym c.in_ok-check_floating.was ∙ c.check_floating.ensures) in (is.0, is.1, c.new-layout.ensures)
 
 pub returns-in_err-check_all : goal.returns-in_err-check_all
 returns-in_err-check_all c =
@@ -31,5 +31,5 @@ returns-in_err-check_all c =
 
 pub returns : goal.returns
 returns c =
-    let both = (rearranged_done _ _ _ _ (sym c.in_ok-check_floating.was ∙ c.check_floating.ensures) c.if-operand-out.false _ c.check_all.ensures c.in_ok-check_all.was _ (c.store_rearranged.ensures ∙ ap (λ (k : ℕ). map (rearranged (way_of c.args.way) k) c.args.operand.now) c.new-l.ensures)) in
+    let both = (rearranged_done _ _ _ _ (sym c.in_ok-check_floating.was ∙ c.check_floating.ensures) c.if-operand-out.false _ c.check_all.ensures c.in_ok-check_all.was _ (c.store_rearranged.ensures ∙ ap (λ (k : ℕ). map (rearranged (way_of c.args.way) k) c.args.operand.now) c.new-layout.ensures)) in
     record { answered = both.0; stored = both.1 }

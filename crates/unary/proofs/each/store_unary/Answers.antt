@@ -1,5 +1,4 @@
-use Rattle.vectors.proofs.EachLaws.{word_at, storing_next, storing_end}
-use Rattle.unary.proofs.EachLaws.{unwrapped}
+use Rattle.vectors.proofs.EachLaws.{unwrapped, word_at, storing_next, storing_end}
 use Rattle.slash.specs.Steps.{or_zero}
 use Rattle.unary.specs.Operations.{unary_word}
 use native.Mathlib.Omega.{arith}
