@@ -4,8 +4,5 @@ use lib.Seq.{length-take-le}
 use mathlib.Core.Path.{sym}
 use Rattle.recording.proofs.line.line_length.Goals as goal
 
-pub slice_bounds-length_before-end : goal.slice_bounds-length_before-end
-slice_bounds-length_before-end c = sym (length-take-le _ _ (omega (arith, c.min-most.ensures)))
-
 pub returns : goal.returns
 returns c = length_is c.args.bytes.now c.min-most.result (omega (arith, c.min-most.ensures)) _ c.length_before.ensures.defined

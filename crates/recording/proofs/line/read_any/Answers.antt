@@ -8,11 +8,5 @@ use Rattle.recording.proofs.line.read_any.Goals as goal
 pub returns-then-bytes-k : goal.returns-then-bytes-k
 returns-then-bytes-k c = line_long _ _ c.line_length-k.ensures c.if-bytes-k.true
 
-pub overflow_add-k : goal.overflow_add-k
-overflow_add-k c = omega (arith, (line_shorter (length c.args.bytes.now) c.line_length-k.result c.if-bytes-k.false).1)
-
-pub slice_bounds-read_fields-end : goal.slice_bounds-read_fields-end
-slice_bounds-read_fields-end c = sym (length-take-le _ _ (omega (arith, (line_shorter (length c.args.bytes.now) c.line_length-k.result c.if-bytes-k.false).0)))
-
 pub returns : goal.returns
 returns c = line_read _ _ c.line_length-k.ensures c.if-bytes-k.false _ c.read_fields.ensures

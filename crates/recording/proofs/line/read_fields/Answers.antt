@@ -13,12 +13,6 @@ returns-then-j-rest c = fields_two _ _ _ c.length_before-i.ensures.defined (omeg
 pub returns-then-length_before-last : goal.returns-then-length_before-last
 returns-then-length_before-last c = fields_four _ _ _ c.length_before-i.ensures.defined (omega arith) _ c.length_before-j.ensures.defined (omega arith) _ c.length_before.ensures.defined c.if-length_before-last.true
 
-pub slice_bounds-read_tick-end : goal.slice_bounds-read_tick-end
-slice_bounds-read_tick-end c = sym (length-take-le _ _ c.length_before-i.ensures.within)
-
-pub slice_bounds-read_tick-end-2 : goal.slice_bounds-read_tick-end-2
-slice_bounds-read_tick-end-2 c = sym (length-take-le _ _ c.length_before-j.ensures.within)
-
 pub returns : goal.returns
 returns c =
     fields_three _ _ _ c.length_before-i.ensures.defined (omega arith) _ c.length_before-j.ensures.defined (omega arith) _ c.length_before.ensures.defined c.if-length_before-last.false

@@ -13,11 +13,5 @@ returns-then-bytes-eq0 c = first_none _ c.if-bytes-eq0.true
 pub returns-then-bytes-k : goal.returns-then-bytes-k
 returns-then-bytes-k c = ap Err c.stop_at_first.ensures ∙ first_long _ c.if-bytes-eq0.false _ c.line_length-k.ensures c.if-bytes-k.true
 
-pub overflow_add-k : goal.overflow_add-k
-overflow_add-k c = omega (arith, (line_shorter (length c.args.bytes.now) c.line_length-k.result c.if-bytes-k.false).1)
-
-pub slice_bounds-read_rate-end : goal.slice_bounds-read_rate-end
-slice_bounds-read_rate-end c = sym (length-take-le _ _ (omega (arith, (line_shorter (length c.args.bytes.now) c.line_length-k.result c.if-bytes-k.false).0)))
-
 pub returns : goal.returns
 returns c = first_read _ c.if-bytes-eq0.false _ c.line_length-k.ensures c.if-bytes-k.false _ c.read_rate.ensures

@@ -11,9 +11,6 @@ returns-then-i-line c = ap Err c.stop_at_first.ensures ∙ rate_one _ _ _ c.leng
 pub returns-then-length_before-rest : goal.returns-then-length_before-rest
 returns-then-length_before-rest c = ap Err c.stop_at_first-then-length_before-rest.ensures ∙ rate_three _ _ _ c.length_before-i.ensures.defined (omega arith) _ c.length_before.ensures.defined c.if-length_before-rest.true
 
-pub slice_bounds-is_same-end : goal.slice_bounds-is_same-end
-slice_bounds-is_same-end c = sym (length-take-le _ _ c.length_before-i.ensures.within)
-
 pub returns-then-not-is_same : goal.returns-then-not-is_same
 returns-then-not-is_same c = ap Err c.stop_at_first-then-not-is_same.ensures ∙ rate_other _ _ _ c.length_before-i.ensures.defined (omega arith) _ c.length_before.ensures.defined c.if-length_before-rest.false (sym c.is_same.ensures ∙ c.if-not-is_same.true)
 

@@ -7,9 +7,6 @@ use Rattle.recording.proofs.reading.check_breaths.Goals as goal
 pub loop-used-init : goal.loop-used-init
 loop-used-init c = reading_start _
 
-pub overflow_add-breath : goal.overflow_add-breath
-overflow_add-breath c = record { fits = omega (arith, (reading_used c.loop-used.invariant c.next_length.ensures (c.in_ok-used.was ∙ ap Ok c.in-Some.is)).0) }
-
 pub slice_bounds-rest-count : goal.slice_bounds-rest-count
 slice_bounds-rest-count c = omega (arith, (reading_used c.loop-used.invariant c.next_length.ensures (c.in_ok-used.was ∙ ap Ok c.in-Some.is)).2)
 
