@@ -302,12 +302,6 @@ module _ {text : List ℕ} {count : ℕ} {a b a' b' : List ℕ} {from i : ℕ} (
     here : Next g.rest (i + 1) g.last (drop from text)
     here = next g.rest (i + 1) g.last (drop from text) (omega (arith, g.counted)) g.listed g.left
 
-    pub filling_few : i + 1 ≤ 65536
-    filling_few = omega (arith, g.few)
-
-    pub filling_place : (i < length a') × (i < length b')
-    filling_place = (omega (arith, g.numbers_room, g.numbers_long), omega (arith, g.words_room, g.words_long))
-
     module _ (k : ℕ) (ke : k ≡ length (decimal (i + 1))) where
       pub filling_room : from + k + 1 + 8 ≤ length text
       filling_room =

@@ -1,18 +1,9 @@
-use Rattle.loading.proofs.FillLaws.{filling_start, filling_few, filling_place, filling_room, filling_last, filling_near, filling_used, filling_next, filling_end}
+use Rattle.loading.proofs.FillLaws.{filling_start, filling_room, filling_last, filling_near, filling_used, filling_next, filling_end}
 use Rattle.std.proofs.Common.{arith}
 use Rattle.loading.proofs.fill.fill_lists.Goals as goal
 
 pub loop-i-init : goal.loop-i-init
 loop-i-init c = filling_start _ _ _ _ c.requires
-
-pub overflow_add-i : goal.overflow_add-i
-overflow_add-i c = omega arith
-
-pub overflow_cast-i : goal.overflow_cast-i
-overflow_cast-i c = omega (arith, filling_few c.loop-i.invariant c.loop-i-test.true)
-
-pub digits-requires : goal.digits-requires
-digits-requires c = filling_few c.loop-i.invariant c.loop-i-test.true
 
 pub overflow_add-word : goal.overflow_add-word
 overflow_add-word c = omega (arith, filling_room c.loop-i.invariant c.loop-i-test.true _ c.digits.ensures)
@@ -26,26 +17,14 @@ overflow_add-last c = omega (arith, filling_room c.loop-i.invariant c.loop-i-tes
 pub overflow_add-last-in-loop-i : goal.overflow_add-last-in-loop-i
 overflow_add-last-in-loop-i c = omega (arith, filling_last c.loop-i.invariant c.loop-i-test.true _ c.digits.ensures)
 
-pub overflow_add-numbers : goal.overflow_add-numbers
-overflow_add-numbers c = omega arith
-
-pub bounds-numbers-i : goal.bounds-numbers-i
-bounds-numbers-i c = (filling_place c.loop-i.invariant c.loop-i-test.true).0
-
 pub word_at-requires : goal.word_at-requires
 word_at-requires c = omega (arith, filling_room c.loop-i.invariant c.loop-i-test.true _ c.digits.ensures)
-
-pub bounds-words-i : goal.bounds-words-i
-bounds-words-i c = (filling_place c.loop-i.invariant c.loop-i-test.true).1
 
 pub slice_bounds-near_end-count : goal.slice_bounds-near_end-count
 slice_bounds-near_end-count c = omega (arith, filling_last c.loop-i.invariant c.loop-i-test.true _ c.digits.ensures)
 
 pub slice_bounds-near_end-start : goal.slice_bounds-near_end-start
 slice_bounds-near_end-start c = omega (arith, filling_last c.loop-i.invariant c.loop-i-test.true _ c.digits.ensures)
-
-pub slice_bounds-near_end-end : goal.slice_bounds-near_end-end
-slice_bounds-near_end-end c = omega arith
 
 pub near_end-requires : goal.near_end-requires
 near_end-requires c = filling_near c.loop-i.invariant c.loop-i-test.true _ c.digits.ensures

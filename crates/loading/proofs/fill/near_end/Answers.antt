@@ -1,6 +1,5 @@
 use Rattle.std.proofs.Common.{arith, ◌-◌, get_or}
 use Rattle.loading.proofs.EndLaws.{mark_of, mark_small, marking_start, marking_small, marking_next, marking_end}
-use lib.Count.{trailing_le}
 use Rattle.loading.proofs.fill.near_end.Goals as goal
 
 pub loop-i-init : goal.loop-i-init
@@ -14,9 +13,6 @@ overflow_add-marks c = omega (arith, marking_small c.loop-i.invariant, mark_smal
 
 pub loop-i-preserved : goal.loop-i-preserved
 loop-i-preserved c = marking_next c.loop-i.invariant _ (omega arith) _ (mark_of _)
-
-pub overflow_cast-result : goal.overflow_cast-result
-overflow_cast-result c = omega (arith, trailing_le 32 c.loop-i.marks)
 
 pub returns : goal.returns
 returns c = marking_end c.loop-i.invariant (omega arith)

@@ -1,9 +1,6 @@
-use Rattle.std.proofs.Common.{sym, refl, ◌∙◌, arith, ne_eqb}
+use Rattle.std.proofs.Common.{sym, ◌∙◌, arith, ne_eqb}
 use Rattle.loading.proofs.LineLaws.{number_none, number_differs, number_before, number_long, number_one}
 use Rattle.loading.proofs.line.is_number.Goals as goal
-
-pub loop-m-init : goal.loop-m-init
-loop-m-init c = refl
 
 pub returns-in_default : goal.returns-in_default
 returns-in_default c = sym (c.loop-m.invariant ∙ number_none _ c.loop-m-test.true _ c.in_default.ensures.cases)

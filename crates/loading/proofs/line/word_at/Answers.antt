@@ -1,17 +1,11 @@
 use Rattle.std.proofs.Common.{◌≡◌, ℕ, ap, ◌∙◌, arith}
-use Rattle.loading.proofs.LineLaws.{reading_start, reading_small, reading_next, reading_end}
+use Rattle.loading.proofs.LineLaws.{reading_small, reading_next, reading_end}
 use Rattle.loading.specs.Steps.{word_from}
 use Rattle.std.proofs.Common.{◌+◌, ◌-◌, take, drop}
 use Rattle.loading.proofs.line.word_at.Goals as goal
 
-pub loop-b-init : goal.loop-b-init
-loop-b-init c = reading_start _
-
 pub overflow_mul-value : goal.overflow_mul-value
 overflow_mul-value c = omega (arith, reading_small c.loop-b.invariant (omega (arith, c.loop-b-test.true)))
-
-pub overflow_add-value : goal.overflow_add-value
-overflow_add-value c = omega (arith, reading_small c.loop-b.invariant (omega (arith, c.loop-b-test.true)), c.digit_value.ensures.small)
 
 pub loop-b-preserved : goal.loop-b-preserved
 loop-b-preserved c = reading_next c.loop-b.invariant c.loop-b-test.true _ c.digit_value.ensures.value c.digit_value.ensures.small

@@ -8,12 +8,6 @@ returns-then-w-eq0 c = listable_zero _ c.if-w-eq0.true
 pub returns-then-w-ge-SIGN : goal.returns-then-w-ge-SIGN
 returns-then-w-ge-SIGN c = listable_large _ (omega (arith, c.if-w-ge-SIGN.true))
 
-pub overflow_cast-numerator : goal.overflow_cast-numerator
-overflow_cast-numerator c = omega (arith, c.if-w-ge-SIGN.false)
-
-pub overflow_cast-denominator : goal.overflow_cast-denominator
-overflow_cast-denominator c = omega arith
-
 pub returns-then-denominator-numerator : goal.returns-then-denominator-numerator
 returns-then-denominator-numerator c = listable_above _ (omega (arith, c.if-w-ge-SIGN.false)) c.if-w-eq0.false (omega (arith, c.if-denominator-numerator.true))
 

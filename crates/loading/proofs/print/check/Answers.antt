@@ -1,11 +1,8 @@
 use Rattle.std.proofs.Common.{sym, arith}
 use borrow.Author.Tests.{eqb-true}
 use Rattle.loading.proofs.LineLaws.{stopped_at}
-use Rattle.loading.proofs.PrintLaws.{checking_start, checking_many, checking_not, checking_next, checking_none, checking_total, checking_end, void_by}
+use Rattle.loading.proofs.PrintLaws.{checking_many, checking_not, checking_next, checking_none, checking_total, checking_end, void_by}
 use Rattle.loading.proofs.print.check.Goals as goal
-
-pub loop-i-init : goal.loop-i-init
-loop-i-init c = checking_start _ _
 
 pub returns-then-i : goal.returns-then-i
 returns-then-i c = stopped_at c.stop_at.ensures (checking_many c.loop-i.invariant c.loop-i-test.true c.if-i.true)

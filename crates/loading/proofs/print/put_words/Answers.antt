@@ -1,8 +1,5 @@
-use Rattle.loading.proofs.PrintLaws.{putting_start, putting_next, putting_end}
+use Rattle.loading.proofs.PrintLaws.{putting_next, putting_end}
 use Rattle.loading.proofs.print.put_words.Goals as goal
-
-pub loop-i-init : goal.loop-i-init
-loop-i-init c = putting_start _ _
 
 pub loop-i-preserved : goal.loop-i-preserved
 loop-i-preserved c = putting_next c.loop-i.invariant c.requires.2 c.requires.1 c.requires.0 c.loop-i-test.true _ c.of_word.ensures c.put_line-at.ensures

@@ -1,7 +1,5 @@
 use Rattle.recording.proofs.LineLaws.{length_is}
 use native.Mathlib.Omega.{arith}
-use lib.Seq.{length-take-le}
-use mathlib.Core.Path.{sym}
 use Rattle.recording.proofs.line.line_length.Goals as goal
 
 pub returns : goal.returns

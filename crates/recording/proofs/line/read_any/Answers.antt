@@ -1,8 +1,4 @@
-use Rattle.recording.proofs.LineLaws.{line_shorter, line_long, line_read}
-use lib.ListN.{length}
-use native.Mathlib.Omega.{arith}
-use lib.Seq.{length-take-le}
-use mathlib.Core.Path.{sym}
+use Rattle.recording.proofs.LineLaws.{line_long, line_read}
 use Rattle.recording.proofs.line.read_any.Goals as goal
 
 pub returns-then-bytes-k : goal.returns-then-bytes-k

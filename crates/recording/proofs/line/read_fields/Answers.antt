@@ -1,7 +1,5 @@
 use Rattle.recording.proofs.LineLaws.{fields_one, fields_two, fields_three, fields_four}
 use native.Mathlib.Omega.{arith}
-use lib.Seq.{length-take-le}
-use mathlib.Core.Path.{sym}
 use Rattle.recording.proofs.line.read_fields.Goals as goal
 
 pub returns-then-i-line : goal.returns-then-i-line

@@ -1,9 +1,5 @@
 use Rattle.recording.proofs.OpeningLaws.{first_none, first_long, first_read}
-use Rattle.recording.proofs.LineLaws.{line_shorter}
-use lib.ListN.{length}
-use native.Mathlib.Omega.{arith}
-use lib.Seq.{length-take-le}
-use mathlib.Core.Path.{ap, sym, ◌∙◌}
+use mathlib.Core.Path.{ap, ◌∙◌}
 use Rattle.std.specs.Prelude.{Err}
 use Rattle.recording.proofs.opening.first_line.Goals as goal
 

@@ -1,6 +1,5 @@
 use Rattle.recording.proofs.OpeningLaws.{rate_one, rate_three, rate_other, rate_named}
 use native.Mathlib.Omega.{arith}
-use lib.Seq.{length-take-le}
 use mathlib.Core.Path.{ap, sym, ◌∙◌}
 use Rattle.std.specs.Prelude.{Err}
 use Rattle.recording.proofs.opening.read_rate.Goals as goal
