@@ -59,6 +59,19 @@ def functions(text):
         yield found.group(2), found.start(), found.group(3), text[found.end() : head], text[head:end]
 
 
+def lines_that(says, pattern, in_code=True, group=0):
+    """A rule: each place that the pattern finds, in the code alone or in the whole text. `says` tells what it finds."""
+    sought = re.compile(pattern, re.M)
+
+    def rule(name, text):
+        searched = code_of(text) if in_code else text
+        for found in sought.finditer(searched):
+            yield line_at(searched, found.start()), found.group(group).strip()
+
+    rule.__doc__ = says
+    return rule
+
+
 # ---- 1
 
 
@@ -74,23 +87,21 @@ def own_results(name, text):
             yield line_at(text, found.start()), "enum " + found.group(1)
 
 
-def uses_of_results(name, text):
-    """Uses of the variants that such enums have here."""
-    code = code_of(text)
-    for found in re.finditer(r"\b[A-Z]\w+::(?:Done|Stopped|Good|Full|Wrong|Other|Told|Read|Refused)\b", code):
-        yield line_at(code, found.start()), found.group(0)
-
-
-def sentinels(name, text):
-    """A number that stands for none, by the comment that says so, and a flag beside a value."""
-    for found in re.finditer(r"//[^\n]*\b(?:or|else|and|answers) (?:0|16)\b[^\n]*|^\s+(?:pub\(crate\) )?ok: bool,", text, re.M):
-        yield line_at(text, found.start()), found.group(0).strip()
-
-
-def codes(name, text):
-    """Numbers for kinds and refusals."""
-    for found in re.finditer(r"^\s*(?:pub(?:\(crate\))? )?const ([A-Z_0-9]+): u(?:8|32|64) = (?:\d{1,2}|b'.');", text, re.M):
-        yield line_at(text, found.start()), found.group(1)
+uses_of_results = lines_that(
+    "Uses of the variants that such enums have here.",
+    r"\b[A-Z]\w+::(?:Done|Stopped|Good|Full|Wrong|Other|Told|Read|Refused)\b",
+)
+sentinels = lines_that(
+    "A number that stands for none, by the comment that says so, and a flag beside a value.",
+    r"//[^\n]*\b(?:or|else|and|answers) (?:0|16)\b[^\n]*|^\s+(?:pub\(crate\) )?ok: bool,",
+    in_code=False,
+)
+codes = lines_that(
+    "Numbers for kinds and refusals.",
+    r"^\s*(?:pub(?:\(crate\))? )?const ([A-Z_0-9]+): u(?:8|32|64) = (?:\d{1,2}|b'.');",
+    in_code=False,
+    group=1,
+)
 
 
 # ---- 2
@@ -172,29 +183,25 @@ def facts(all_files):
 # ---- 6
 
 
-def buffers(name, text):
-    """Arrays of a fixed length that are made to be filled in part, and functions that only make one."""
-    code = code_of(text)
-    for found in re.finditer(r"\[0(?:u\d+)?; \d+\]|\bfn \w+_buffer\(", code):
-        yield line_at(code, found.start()), found.group(0)
+buffers = lines_that(
+    "Arrays of a fixed length that are made to be filled in part, and functions that only make one.",
+    r"\[0(?:u\d+)?; \d+\]|\bfn \w+_buffer\(",
+)
 
 
 # ---- 7
 
 
-def switches(name, text):
-    """A number or a letter that says which step to run."""
-    code = code_of(text)
-    for found in re.finditer(r"\b(?:way|code|stage|asked|class) == \w[\w:]*|match letter|-> fn\(|\bdyn\b", code):
-        yield line_at(code, found.start()), found.group(0)
+switches = lines_that(
+    "A number or a letter that says which step to run.",
+    r"\b(?:way|code|stage|asked|class) == \w[\w:]*|match letter|-> fn\(|\bdyn\b",
+)
 
 
 # ---- 8
 
 
-def answers(name, text):
-    for found in re.finditer(r"^pub ([\w-]+) : goal\.", text, re.M):
-        yield line_at(text, found.start()), found.group(1)
+answers = lines_that("Answers.", r"^pub ([\w-]+) : goal\.", in_code=False, group=1)
 
 
 def repeated(all_files):
