@@ -167,7 +167,7 @@ class Check:
     def check_stop_texts(self):
         """What the program `night` says of a stop is the header's text of it."""
         texts = dict(re.findall(r'case (\d+): return "(.*)";', self.repo.text(HEADER)))
-        said = set(re.findall(r'=> "([^"]+)",', self.repo.text(REPORT)))
+        said = set(re.findall(r'b"([^":]+)\\n"', self.repo.text(REPORT)))
         for number in SAID_BY_NIGHT:
             if texts.get(number) not in said:
                 self.findings.fail(REPORT, 1, f"doesn't say stop {number} as {HEADER} does")

@@ -249,7 +249,7 @@ def stop_in_other_words(scratch, good):
 
 def stop_that_night_says_of_none(scratch, good):
     """`night` says what the header says of no stop of a recording."""
-    line, match = line_with(good, REPORT, r'=> "([^"]+)",')
+    line, match = line_with(good, REPORT, r'b"([^":]+)\\n"')
     scratch.replace(REPORT, line, match[1], NOTHING)
     return f"says `{NOTHING}`"
 

@@ -4,6 +4,7 @@
 
 #![tactic(auto)]
 
+mod heedless;
 mod line;
 mod operations;
 mod places;
@@ -14,36 +15,37 @@ mod single;
 mod ticks;
 mod words;
 
+use heedless::Heedless;
 use line::Line;
 use std::io;
-use std::io::{BufRead, BufReader, LineWriter, Write};
+use std::io::{Read, Write};
 
 // Each answer is written as soon as its line is read; what stands behind the last line feed is no
 // request.
-fn run(rt: &HostRuntime) -> io::Result<()> {
-    let alloc = rt.alloc();
-    let mut from = BufReader::new(alloc, rt.reader())?;
-    let mut out = LineWriter::new(alloc, io::writer(rt))?;
-    let mut bytes = Vec::new(alloc);
+fn run<R: Read, W: Write>(from: &mut R, out: &mut W) -> io::Result<()> {
+    let mut bytes = [0; 512];
     let mut line = Line::new();
+    // No input takes so many reads.
     for _ in 0..u64::MAX {
-        bytes.clear();
-        from.read_until(b'\n', &mut bytes)?;
-        let Some((b'\n', request)) = bytes.split_last() else {
+        let n = from.read(&mut bytes)?;
+        if n == 0 {
             break;
-        };
-        for &b in request {
-            line.take(b);
         }
-        line.end();
-        requests::run(alloc, &mut out, &line)?;
-        out.write_all(b"\n")?;
-        line.clear();
+        for &b in &bytes[..n] {
+            if b == b'\n' {
+                line.end();
+                requests::run(out, &line)?;
+                out.write_all(b"\n")?;
+                line.clear();
+            } else {
+                line.take(b);
+            }
+        }
     }
-    out.flush()
+    Ok(())
 }
 
-// Where a read or a write fails, the run ends there.
+// Where a read fails, the run ends there.
 fn main(rt: HostRuntime) {
-    let _ = run(&rt);
+    let _ = run(&mut rt.stdin(), &mut Heedless(rt.stdout()));
 }

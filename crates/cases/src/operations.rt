@@ -1,5 +1,7 @@
 // Requests on two words of one format, and on conversion. A request with a capital letter is about
 // every word of a small format.
+ghost use Rattle.std.specs.Prelude.{◌≤◌};
+
 use crate::show::{Brief, Told, Word};
 use arithmetic::Order;
 use slash::{Format, Stop};
@@ -8,7 +10,9 @@ use std::io;
 use std::io::Write;
 
 // How many words a format of at most 16 bits has; 0 for any other.
-fn count(f: Format) -> u64 {
+fn count(f: Format) -> u64
+    ensures { result ≤ 65536 }
+{
     match f.width() {
         Ok(width) if width <= 16 => 1 << width,
         _ => 0,

@@ -2,25 +2,27 @@
 // bytes, and the words at the places.
 use crate::places::{at_most, show_words};
 use crate::show::done;
-use std::alloc::Global;
 use std::io;
 use std::io::Write;
 
 // i LENGTH OUT BYTES WORDS
 pub(crate) fn imported<W: Write>(
-    alloc: Global,
     out: &mut W,
     lengths: [u64; 2],
     all: &[u64; 256],
 ) -> io::Result<()> {
     let [length, places] = lengths;
-    let end = 3 + at_most(192, length);
+    let length = at_most(192, length);
+    let end = 3 + length;
     let n = at_most(16, places);
-    let bytes: Vec<u8> = all[3..end].iter().map(|b| (*b % 256) as u8).collect(alloc)?;
+    let mut bytes = [0; 192];
+    for (byte, number) in bytes.iter_mut().zip(&all[3..end]) {
+        *byte = (*number % 256) as u8;
+    }
     let mut result = [0; 16];
     let lent = &mut result[..n];
     lent.copy_from_slice(&all[end..end + n]);
-    let told = importing::import_records(&bytes, lent);
+    let told = importing::import_records(&bytes[..length], lent);
     write!(out, "{}", done(told))?;
     show_words(out, lent)
 }

@@ -3,7 +3,6 @@ use crate::line::Line;
 use crate::{operations, places, records, single, ticks, words};
 use breaths::Sums;
 use slash::Format;
-use std::alloc::Global;
 use std::io;
 use std::io::Write;
 
@@ -45,7 +44,7 @@ fn run_words<W: Write>(out: &mut W, line: &Line) -> io::Result<()> {
 }
 
 // A request on vectors, whose words, or bytes, are in the list of all numbers.
-fn run_vectors<W: Write>(alloc: Global, out: &mut W, line: &Line) -> io::Result<()> {
+fn run_vectors<W: Write>(out: &mut W, line: &Line) -> io::Result<()> {
     let [_, kind, k, a, b, c, d, _] = line.numbers;
     let f = Format { kind, k };
     let to = Format { kind: a, k: b };
@@ -55,15 +54,15 @@ fn run_vectors<W: Write>(alloc: Global, out: &mut W, line: &Line) -> io::Result<
         b'y' => places::unary_each(out, f, a, [b, c], all),
         b'z' => places::convert_each(out, f, to, [c, d], all),
         b'e' => places::rearranged_each(out, f, a, [b, c], all),
-        b'i' => records::imported(alloc, out, [kind, k], all),
+        b'i' => records::imported(out, [kind, k], all),
         _ => write!(out, "unknown"),
     }
 }
 
 // Runs the request of a line and writes its answer.
-pub(crate) fn run<W: Write>(alloc: Global, out: &mut W, line: &Line) -> io::Result<()> {
+pub(crate) fn run<W: Write>(out: &mut W, line: &Line) -> io::Result<()> {
     match line.letter {
-        b'e' | b'i' | b'x'.. => run_vectors(alloc, out, line),
+        b'e' | b'i' | b'x'.. => run_vectors(out, line),
         _ => run_words(out, line),
     }
 }

@@ -19,8 +19,14 @@ pub(crate) fn format<W: Write>(out: &mut W, kind: u64, k: u64) -> io::Result<()>
     }
 }
 
+// A sign, and a space.
 fn sign(negative: bool) -> &'static str {
-    if negative { "-" } else { "+" }
+    if negative { "- " } else { "+ " }
+}
+
+// A space, and 1 for an approximate value or a negative one.
+fn bit(set: bool) -> &'static str {
+    if set { " 1" } else { " 0" }
 }
 
 // What a word says: its value, and 1 where it is approximate.
@@ -32,16 +38,16 @@ impl fmt::Display for Said {
         match self.0.value {
             Value::Fraction(p) => write!(
                 f,
-                "{} {}/{}",
+                "{}{}/{}",
                 sign(p.negative),
                 p.numerator,
                 p.denominator
             ),
-            Value::Zero(negative) => write!(f, "{} zero", sign(negative)),
-            Value::Infinity(negative) => write!(f, "{} infinity", sign(negative)),
+            Value::Zero(negative) => write!(f, "{}zero", sign(negative)),
+            Value::Infinity(negative) => write!(f, "{}infinity", sign(negative)),
             Value::NotANumber => write!(f, "nan"),
         }?;
-        write!(f, " {}", u8::from(self.0.approximate))
+        f.write_str(bit(self.0.approximate))
     }
 }
 
@@ -50,17 +56,17 @@ fn show_fields<W: Write>(out: &mut W, fields: Fields) -> io::Result<()> {
     match fields {
         Fields::Fixed(x) => write!(
             out,
-            " {} {} {} {}",
-            u8::from(x.negative),
+            "{} {}{} {}",
+            bit(x.negative),
             x.numerator,
-            u8::from(x.approximate),
+            bit(x.approximate),
             x.denominator
         ),
         Fields::Floating(x) => write!(
             out,
-            " {} {} {} {}",
-            u8::from(x.negative),
-            u8::from(x.approximate),
+            "{}{} {} {}",
+            bit(x.negative),
+            bit(x.approximate),
             x.position,
             x.field
         ),
@@ -106,10 +112,10 @@ pub(crate) fn round<W: Write>(out: &mut W, f: Format, n: u64, d: u64) -> io::Res
     match slash::round(f, n, d) {
         Ok(r) => write!(
             out,
-            "{}/{} {}",
+            "{}/{}{}",
             r.numerator,
             r.denominator,
-            u8::from(r.approximate)
+            bit(r.approximate)
         ),
         Err(stop) => write!(out, "{}", Full(stop)),
     }

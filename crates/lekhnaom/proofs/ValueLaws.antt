@@ -1,11 +1,12 @@
 -- A word's value as numbers in a row. Assumes nothing.
 -- `number_again`: the numbers of a value with its mark tell just that. `normalised_again`: so, what is read of a word is written as the word
--- normalised. `good_status`, `refused_status`: what a call returns of a word that is checked.
+-- normalised. `write_told_lem`: a value that is told, written. `good_status`, `refused_status`: what a call returns of a word that is checked.
 use mathlib.Core.Path.{◌≡◌, refl, sym, ap, ◌∙◌}
 use mathlib.Core.Bool.{Bool, true, false}
 use Prim.Native.Nat.{ℕ, ◌+◌, ◌*◌, ◌%◌, ◌^◌}
 use Rattle.std.specs.Prelude.{Ok, Err}
-use Rattle.slash.specs.Answers.{Outcome, done, ◌then◌}
+use Rattle.slash.specs.Answers.{Outcome, done, ◌then◌, WhenDone}
+use Rattle.slash.specs.Best.{BestForValue}
 use Rattle.slash.specs.Bits.{bit_of}
 use Rattle.slash.specs.Formats.{known, check_format}
 use Rattle.slash.specs.Reading.{checked_word, check_word, number_of, read_word}
@@ -23,7 +24,15 @@ use Rattle.slash.specs.declared.number.Value.TheVariants.{Fraction, Zero, Infini
 use Rattle.slash.specs.declared.answer.Stop.{Stop}
 use Rattle.slash.specs.declared.reading.GoodWord.{GoodWord}
 use Rattle.lekhnaom.specs.Status.{status}
-use Rattle.lekhnaom.specs.Values.{class_of, numbers_of, value_from, number_from, number_at, write_told}
+use Rattle.lekhnaom.specs.Values.{class_of, numbers_of, value_from, number_from, number_at, write_told, BestForTold}
+
+-- ---- a value that is written
+
+module _ (f : Format) (told : Outcome Number) where
+  pub write_told_lem : done tt ≡ check_format f → (x : Number) → done x ≡ told → (o : Outcome ℕ) → (o ≡ write_number f x) × WhenDone o (BestForValue f x.value)
+      → (o ≡ write_told f told) × WhenDone o (BestForTold f told)
+  unfolding write_told BestForTold
+  write_told_lem k x e o m = (rw (← k, ← e) m.0, rw (← e) m.1)
 
 -- ---- a word that is checked
 

@@ -2,7 +2,7 @@
 -- `turn_breath`, `turn_closed`, `turn_stopped` and those beside them: what comes at a line. `reading_next`, `reading_closed`, `reading_stopped`: what
 -- the loop over the lines comes to. `at_once`: a text that begins with a breath's printed line.
 use Rattle.std.proofs.Common.{◌≡◌, ℕ, suc, ◌+◌, ◌-◌, ◌<◌, ◌≤◌, List, [], ◌∷◌, ◌++◌, length, take, drop, sym, refl, ap, ◌∙◌, subst, add-one, arith, length-append, length-drop, take-append-drop, drop-drop}
-use Rattle.std.specs.Prelude.{Option, Some, None, Ok, Err}
+use Rattle.std.specs.Prelude.{Option, Some, None, Ok, Err, IfSome}
 use Rattle.slash.specs.Answers.{Outcome, stop, done}
 use Rattle.slash.specs.declared.answer.Stop.{Stop}
 use Rattle.slash.proofs.AnswerLaws.{and_parts}
@@ -44,6 +44,12 @@ module _ (text : List ℕ) (n w : ℕ) (few : n ≤ 65536) where
         few = few;
         goes = ap (λ (u : List ℕ). load_from n (parted 10 u)) whole ∙ load_breath n w h.0 few (drop r text);
       }
+
+-- what is looked for with a word, where it is there
+pub breath_there : (text : List ℕ) (n w : ℕ) → n ≤ 65536 → (o : Option ℕ) → o ≡ line_there text (Number n) w
+    → IfSome o (λ used. Breath n text used)
+breath_there text n w few (Some used) e = at_once text n w few e
+breath_there text n w few None e = tt
 
 -- ---- a stop, as the functions make it or hand it on
 

@@ -62,7 +62,7 @@ fn is_number(field: &[u8], n: u32) -> bool
 
 // How many bytes the line has that is printed for a name and a word, where the word is listable and
 // the text begins with that line.
-fn line_there(text: &[u8], name: Name, w: u64) -> Option<usize>
+pub(crate) fn line_there(text: &[u8], name: Name, w: u64) -> Option<usize>
     requires { is_name name ≡ true }
     ensures { result ≡ line_there text.now name w }
 {

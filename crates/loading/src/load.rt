@@ -1,12 +1,12 @@
 // A listing read back.
-ghost use Rattle.std.specs.Prelude.{◌≡◌, ◌≤◌, length};
+ghost use Rattle.std.specs.Prelude.{◌≡◌, ◌≤◌, IfSome, length};
 ghost use Rattle.loading.specs.Loads.{load, Exactly};
 ghost use Rattle.loading.specs.Fills.{count_of, load_into, numbers_after, words_after};
-ghost use Rattle.loading.specs.Steps.{LineIs, TurnIs, EndIs};
+ghost use Rattle.loading.specs.Steps.{Breath, LineIs, TurnIs, EndIs};
 
 use crate::fill::fill_lists;
 use crate::first::Line;
-use crate::line::{Entry, digits, guess_at};
+use crate::line::{Entry, digits, guess_at, line_there};
 use crate::listable::is_listable;
 use crate::stops::{SEQUENCE, SHAPE, stop_at};
 use breaths::Ratio;
@@ -79,22 +79,38 @@ fn judged_turn(text: &[u8], n: u32) -> Result<Turn, Stop>
     }
 }
 
-// What comes at line n. Where the longest line has room, breath n's is looked for with the word that
-// stands where it has to: it is stored over the text's first bytes, which are as they were where it
-// stands there. What takes longest is asked last. Any other line is judged whole, which a listing asks
-// for its last ones alone.
+// How many bytes breath n's line has, where a text begins with it: it is looked for with the word that
+// stands where it has to. Where the longest line has room, it is stored over the text's first bytes, which
+// are as they were where it stands there, and what takes longest is asked last.
+fn breath_line(text: &[u8], n: u32) -> Option<usize>
+    requires { (1 ≤ n) × (n ≤ 65536) }
+    ensures { IfSome result (λ used. Breath n text.now used) }
+{
+    let from = digits(n) + 1;
+    if let Some(window) = text.first_chunk() {
+        let w = guess_at(window, from);
+        let mut bytes: [u8; 33] = *window;
+        let used = put_line(&mut bytes, 0, Name::Number(n), Ratio::of_word(w));
+        if is_same(window, &bytes) && is_listable(w) {
+            return Some(used);
+        }
+        return None;
+    }
+    if text.len() < from + 8 {
+        return None;
+    }
+    line_there(text, Name::Number(n), guess_at(text, from))
+}
+
+// What comes at line n. A breath's line as it is printed is known at once; any other is judged whole,
+// which no listing asks for more than once.
 fn next_turn(text: &[u8], n: u32) -> Result<Turn, Stop>
     requires { (1 ≤ n) × (n ≤ 65537) }
     ensures { TurnIs n text.now result }
 {
     if n <= text::MOST_BREATHS {
-        if let Some(window) = text.first_chunk() {
-            let w = guess_at(window, digits(n) + 1);
-            let mut bytes: [u8; 33] = *window;
-            let used = put_line(&mut bytes, 0, Name::Number(n), Ratio::of_word(w));
-            if is_same(window, &bytes) && is_listable(w) {
-                return Ok(Turn::More(used));
-            }
+        if let Some(used) = breath_line(text, n) {
+            return Ok(Turn::More(used));
         }
     }
     judged_turn(text, n)

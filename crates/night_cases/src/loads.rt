@@ -1,7 +1,10 @@
 // Loads texts, and prints what was loaded again.
+ghost use Rattle.std.specs.Prelude.{◌≤◌};
+
 use crate::lent::Lent;
 use crate::{lent, show};
 use loading::Counted;
+use slash::Stop;
 use std::io;
 use std::io::Write;
 
@@ -27,7 +30,8 @@ fn is_printed(text: &[u8], c: Counted, lent: &mut Lent) -> bool {
 
 // Whether a listing is loaded, and its words are printed as it stands.
 pub(crate) fn is_loaded(text: &[u8], lent: &mut Lent) -> bool {
-    match loading::load_text(text, &mut lent.numbers, &mut lent.words) {
+    let (numbers, words) = (&mut *lent.numbers, &mut *lent.words);
+    match loading::load_text(text, numbers, words) {
         Ok(c) => is_printed(text, c, lent),
         Err(_) => false,
     }
@@ -48,15 +52,29 @@ fn show_list<W: Write>(out: &mut W, list: &[u64]) -> io::Result<()> {
     writeln!(out)
 }
 
-// A list of so many places, each with 1 more than the one before it.
-fn fill(list: &mut Vec<u64>, places: usize, first: u64) -> io::Result<()> {
-    list.clear();
-    list.extend((first..).take(places))?;
-    Ok(())
+// Each place gets 1 more than the one before it.
+fn fill(list: &mut [u64], first: u64) {
+    for (place, n) in list.iter_mut().zip(first..) {
+        *place = n;
+    }
 }
 
-// The most places of a list that a text is loaded into: a few more than a listing has breaths.
-pub(crate) const PLACES: usize = 65540;
+// A text loaded into the first places of two lists, so many of each.
+fn load(
+    text: &[u8],
+    numbers: usize,
+    number_list: &mut [u64; lent::PLACES],
+    words: usize,
+    word_list: &mut [u64; lent::PLACES],
+) -> Result<Counted, Stop>
+    requires { (numbers ≤ 65540) × (words ≤ 65540) }
+{
+    let number_list = &mut number_list[..numbers];
+    let word_list = &mut word_list[..words];
+    fill(number_list, LENT_NUMBER);
+    fill(word_list, LENT_WORD);
+    loading::load_text(text, number_list, word_list)
+}
 
 // A text loaded into lists of so many places: what came of it, and the lists.
 pub(crate) fn run<W: Write>(
@@ -66,12 +84,11 @@ pub(crate) fn run<W: Write>(
     words: usize,
     lent: &mut Lent,
 ) -> io::Result<()> {
-    if PLACES < numbers || PLACES < words {
+    if lent::PLACES < numbers || lent::PLACES < words {
         return Ok(());
     }
-    fill(&mut lent.numbers, numbers, LENT_NUMBER)?;
-    fill(&mut lent.words, words, LENT_WORD)?;
-    match loading::load_text(text, &mut lent.numbers, &mut lent.words) {
+    let (number_list, word_list) = (&mut *lent.numbers, &mut *lent.words);
+    match load(text, numbers, number_list, words, word_list) {
         Ok(c) => {
             writeln!(out, "done {} {}", c.breaths, c.total)?;
             if !is_printed(text, c, lent) {
@@ -80,6 +97,6 @@ pub(crate) fn run<W: Write>(
         }
         Err(stop) => show::stop(out, stop)?,
     }
-    show_list(out, &lent.numbers)?;
-    show_list(out, &lent.words)
+    show_list(out, &lent.numbers[..numbers])?;
+    show_list(out, &lent.words[..words])
 }

@@ -9,6 +9,7 @@
 
 #![tactic(auto)]
 
+mod heedless;
 mod lent;
 mod loads;
 mod pieces;
@@ -17,68 +18,70 @@ mod recipe;
 mod recordings;
 mod show;
 
+use heedless::Heedless;
 use lent::Lent;
 use recipe::{Asked, Recipe};
-use std::alloc::Global;
 use std::io;
-use std::io::{BufRead, BufReader, LineWriter, Write};
+use std::io::{Read, Write};
 
 // What a recipe asks for.
-fn answer<W: Write>(alloc: Global, out: &mut W, r: &Recipe, lent: &mut Lent) -> io::Result<()> {
+fn answer<W: Write>(out: &mut W, r: &mut Recipe, lent: &mut Lent) -> io::Result<()> {
     match r.asked {
-        Asked::Listing => recordings::run(alloc, out, &r.bytes, lent),
-        Asked::Loading => loads::run(out, &r.bytes, r.numbers, r.words, lent),
-        Asked::Printing => prints::run(out, &r.bytes, lent),
+        Asked::Listing => recordings::run(out, r, lent),
+        Asked::Loading => loads::run(out, r.bytes(), r.numbers, r.words, lent),
+        Asked::Printing => prints::run(out, r.bytes(), lent),
     }
 }
 
-// Takes a line, with the line feed that ends it, byte by byte; what stands from # on is a comment, and
-// is written as it stands. What stands behind the last line feed asks for nothing.
-fn take_line<W: Write>(
-    alloc: Global,
-    out: &mut W,
-    line: &[u8],
-    r: &mut Recipe,
-    lent: &mut Lent,
-) -> io::Result<()> {
-    r.begin(Asked::Listing);
-    for (i, &b) in line.iter().enumerate() {
-        match b {
-            b'#' => return out.write_all(&line[i..]),
-            b'\n' => {
-                r.end_piece(alloc)?;
-                answer(alloc, out, r, lent)?;
-                return out.write_all(b"\n");
+// Takes a byte of a line; what stands from # on is a comment, and is written as it stands. What stands
+// behind the last line feed asks for nothing.
+fn take<W: Write>(out: &mut W, b: u8, r: &mut Recipe, lent: &mut Lent) -> io::Result<()> {
+    match b {
+        b'\n' => {
+            if !r.is_comment() {
+                r.end_piece();
+                answer(out, r, lent)?;
             }
-            _ => r.take(alloc, b)?,
+            r.begin(Asked::Listing);
+            out.write_all(b"\n")
+        }
+        _ if b == b'#' || r.is_comment() => {
+            r.begin_comment();
+            out.write_all(&[b])
+        }
+        _ => {
+            r.take(b);
+            Ok(())
+        }
+    }
+}
+
+fn run<R: Read, W: Write>(from: &mut R, out: &mut W) -> io::Result<()> {
+    let mut room = recipe::room();
+    let mut listing = lent::listing();
+    let mut numbers = lent::list();
+    let mut words = lent::list();
+    let mut lent = Lent {
+        numbers: &mut numbers,
+        words: &mut words,
+        listing: &mut listing,
+    };
+    let mut recipe = Recipe::new(&mut room);
+    let mut bytes = [0; 512];
+    // No input takes so many reads.
+    for _ in 0..u64::MAX {
+        let n = from.read(&mut bytes)?;
+        if n == 0 {
+            break;
+        }
+        for &b in &bytes[..n] {
+            take(out, b, &mut recipe, &mut lent)?;
         }
     }
     Ok(())
 }
 
-fn run(rt: &HostRuntime) -> io::Result<()> {
-    let alloc = rt.alloc();
-    let mut from = BufReader::new(alloc, rt.reader())?;
-    let mut out = LineWriter::new(alloc, io::writer(rt))?;
-    let mut room = vec![in alloc; 0; lent::ROOM]?;
-    let mut lent = Lent {
-        numbers: Vec::new(alloc),
-        words: Vec::new(alloc),
-        listing: room.as_mut_array().unwrap(),
-    };
-    let mut recipe = Recipe::new(alloc);
-    let mut line = Vec::new(alloc);
-    for _ in 0..u64::MAX {
-        line.clear();
-        if from.read_until(b'\n', &mut line)? == 0 {
-            break;
-        }
-        take_line(alloc, &mut out, &line, &mut recipe, &mut lent)?;
-    }
-    out.flush()
-}
-
-// Where a read or a write fails, the run ends there.
+// Where a read fails, the run ends there.
 fn main(rt: HostRuntime) {
-    let _ = run(&rt);
+    let _ = run(&mut rt.stdin(), &mut Heedless(rt.stdout()));
 }

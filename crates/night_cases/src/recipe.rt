@@ -5,10 +5,18 @@
 //   P<recipe>                            the listing of words
 // A recipe is pieces parted by one space, each a count, a star and the bytes to repeat, two
 // hexadecimal digits a byte. No piece is the empty recipe.
-use std::alloc::{AllocError, Global};
+ghost use Rattle.std.specs.Prelude.{◌≡◌, length};
 
 // No recipe makes more bytes; what has no room is left out.
 const ROOM: usize = 2300000;
+
+// Room for the bytes. (In a function of its own, whose proof says how long it is by a law: where it is
+// used the check counts so many zeros.)
+pub(crate) fn room() -> [u8; ROOM]
+    ensures { 2300000 ≡ length result }
+{
+    [0; ROOM]
+}
 
 // What is asked for: any letter but P asks for a loading.
 #[derive(Clone, Copy)]
@@ -18,20 +26,21 @@ pub(crate) enum Asked {
     Printing,
 }
 
-// What the next byte of a line is: a digit of a count or of a number, or the first or the second
-// hexadecimal digit of a byte.
+// What the next byte of a line is: a digit of a count or of a number, the first or the second
+// hexadecimal digit of a byte, or part of a comment.
 #[derive(Clone, Copy)]
 enum Stage {
     Count,
     First,
     Second,
+    Comment,
 }
 
 // What is asked, the void breaths whose lines begin the bytes, and the places of the lists of numbers
 // and of words that a text is loaded into; then how often the piece that has begun is to stand, where
-// it starts among the bytes, the bytes so far, and the first hexadecimal digit of a byte.
+// it starts among the bytes, where they end so far, and the first hexadecimal digit of a byte.
 #[derive(Drop)]
-pub(crate) struct Recipe {
+pub(crate) struct Recipe<'a> {
     pub(crate) asked: Asked,
     voids: usize,
     pub(crate) numbers: usize,
@@ -39,7 +48,8 @@ pub(crate) struct Recipe {
     stage: Stage,
     count: usize,
     start: usize,
-    pub(crate) bytes: Vec<u8>,
+    end: usize,
+    bytes: &'a mut [u8; ROOM],
     high: u8,
 }
 
@@ -49,8 +59,8 @@ fn digit(b: u8) -> u8 {
     b.wrapping_sub(zero) % 16
 }
 
-impl Recipe {
-    pub(crate) fn new(alloc: Global) -> Recipe {
+impl<'a> Recipe<'a> {
+    pub(crate) fn new(bytes: &'a mut [u8; ROOM]) -> Recipe<'a> {
         Recipe {
             asked: Asked::Listing,
             voids: 0,
@@ -59,28 +69,33 @@ impl Recipe {
             stage: Stage::Count,
             count: 0,
             start: 0,
-            bytes: Vec::new(alloc),
+            end: 0,
+            bytes,
             high: 0,
         }
     }
 
+    // The bytes so far.
+    pub(crate) fn bytes(&self) -> &[u8] {
+        &self.bytes[..self.end.min(ROOM)]
+    }
+
+    pub(crate) fn is_comment(&self) -> bool {
+        matches!(self.stage, Stage::Comment)
+    }
+
+    pub(crate) fn begin_comment(&mut self) {
+        self.stage = Stage::Comment;
+    }
+
     // The recipe with one byte more of its line.
-    pub(crate) fn take(&mut self, alloc: Global, b: u8) -> Result<(), AllocError> {
+    pub(crate) fn take(&mut self, b: u8) {
         match b {
-            b' ' => self.end_piece(alloc),
-            b':' => self.end_number(alloc),
-            b'*' => {
-                self.stage = Stage::First;
-                Ok(())
-            }
-            b'A'..=b'Z' => {
-                self.begin(if b == b'P' {
-                    Asked::Printing
-                } else {
-                    Asked::Loading
-                });
-                Ok(())
-            }
+            b' ' => self.end_piece(),
+            b':' => self.end_number(),
+            b'*' => self.stage = Stage::First,
+            b'P' => self.begin(Asked::Printing),
+            b'A'..=b'Z' => self.begin(Asked::Loading),
             _ => self.take_digit(digit(b)),
         }
     }
@@ -91,18 +106,18 @@ impl Recipe {
         self.voids = 0;
         self.numbers = 0;
         self.words = 0;
-        self.bytes.clear();
+        self.end = 0;
         self.begin_piece();
     }
 
     fn begin_piece(&mut self) {
         self.stage = Stage::Count;
         self.count = 0;
-        self.start = self.bytes.len();
+        self.start = self.end;
     }
 
     // One digit more of its count or of its bytes.
-    fn take_digit(&mut self, digit: u8) -> Result<(), AllocError> {
+    fn take_digit(&mut self, digit: u8) {
         match self.stage {
             // No count is above the bytes' room.
             Stage::Count => self.count = self.count % 1000000 * 10 + digit as usize,
@@ -111,54 +126,64 @@ impl Recipe {
                 self.stage = Stage::Second;
             }
             Stage::Second => {
-                self.put(&[self.high % 16 * 16 + digit % 16])?;
+                self.put(&[self.high % 16 * 16 + digit % 16]);
                 self.stage = Stage::First;
             }
+            Stage::Comment => {}
         }
-        Ok(())
     }
 
     // A text behind the bytes, where it has room.
-    fn put(&mut self, text: &[u8]) -> Result<(), AllocError> {
-        if self.bytes.len() + text.len() <= ROOM {
-            self.bytes.extend_from_slice(text)?;
+    fn put(&mut self, text: &[u8]) {
+        let start = self.end;
+        let end = start.saturating_add(text.len());
+        if let Some(room) = self.bytes.get_mut(start..end) {
+            room.copy_from_slice(text);
+            self.end = end;
         }
-        Ok(())
+    }
+
+    // A text in the place of the bytes.
+    pub(crate) fn hold(&mut self, text: &[u8]) {
+        self.end = 0;
+        self.put(text);
     }
 
     // A number is ended by its colon. Each moves those before it up, so that the last one is the places
     // for words, whether two or three are there. The void breaths' lines go before the pieces; they are
     // made without the library whose loading reads them.
-    fn end_number(&mut self, alloc: Global) -> Result<(), AllocError> {
+    fn end_number(&mut self) {
         self.voids = self.numbers;
         self.numbers = self.words;
         self.words = self.count;
         self.count = 0;
-        self.bytes.clear();
+        self.end = 0;
         for n in 0..self.voids {
-            let number = format!(in alloc; "{}", n + 1)?;
-            self.put(number.as_bytes())?;
-            self.put(b"\t00000000\t-\t-\n")?;
+            let mut digits = [0; 20];
+            let length = io::decimal(n as u64 + 1, &mut digits);
+            self.put(&digits[..length]);
+            self.put(b"\t00000000\t-\t-\n");
         }
-        self.start = self.bytes.len();
-        Ok(())
+        self.start = self.end;
     }
 
     // The piece that has begun is repeated until it stands there as often as it is to stand.
-    pub(crate) fn end_piece(&mut self, alloc: Global) -> Result<(), AllocError> {
-        // It is never behind the end: that is said again where the bounds are proved.
-        let start = self.start.min(self.bytes.len());
+    pub(crate) fn end_piece(&mut self) {
         if self.count == 0 {
-            self.bytes.truncate(start);
+            self.end = self.start;
         }
-        let piece = self.bytes[start.min(self.bytes.len())..].to_vec(alloc)?;
-        for _ in 1..self.count {
-            if ROOM < self.bytes.len() + piece.len() {
-                break;
+        let (start, count) = (self.start, self.count);
+        let mut end = self.end.min(ROOM);
+        let (held, room) = self.bytes.split_at_mut(end);
+        let piece = &held[start.min(held.len())..];
+        let size = piece.len();
+        if 0 < size {
+            for copy in room.chunks_exact_mut(size).take(count.saturating_sub(1)) {
+                copy.copy_from_slice(piece);
+                end = end.saturating_add(size);
             }
-            self.bytes.extend_from_slice(&piece)?;
         }
+        self.end = end;
         self.begin_piece();
-        Ok(())
     }
 }

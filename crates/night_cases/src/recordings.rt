@@ -1,45 +1,32 @@
 // Lists recordings, whole and in pieces, and loads the listings.
 use crate::lent::Lent;
+use crate::recipe::Recipe;
 use crate::{lent, loads, pieces, show};
-use std::alloc::Global;
 use std::io;
 use std::io::Write;
 
 // The listing of a recording, whole, or in pieces where a stop refuses it. Pieces that don't make it
 // are told, and a listing that isn't loaded, or whose words aren't printed as it stood.
-pub(crate) fn run<W: Write>(
-    alloc: Global,
-    out: &mut W,
-    bytes: &[u8],
-    lent: &mut Lent,
-) -> io::Result<()> {
-    let array = &mut *lent.listing;
-    match listing::list(bytes, array) {
-        Ok(length) => {
-            let listing = lent::stored(array, length).to_vec(alloc)?;
-            // What isn't printed again there is told.
-            array[..listing.len()].fill(0);
-            compare(alloc, out, bytes, &listing, lent)
-        }
-        Err(_) => show::listing(out, &pieces::listed(alloc, bytes, array)?),
-    }
-}
-
-fn compare<W: Write>(
-    alloc: Global,
-    out: &mut W,
-    bytes: &[u8],
-    listing: &[u8],
-    lent: &mut Lent,
-) -> io::Result<()> {
+pub(crate) fn run<W: Write>(out: &mut W, r: &mut Recipe, lent: &mut Lent) -> io::Result<()> {
+    let Ok(length) = listing::list(r.bytes(), lent.listing) else {
+        let mut rest = &mut lent.listing[..];
+        let _ = pieces::list(r.bytes(), &mut rest);
+        let left = rest.len();
+        return show::listing(out, &lent.listing[..lent::ROOM - left.min(lent::ROOM)]);
+    };
+    let listing = lent::stored(&lent.listing[..], length);
     show::listing(out, listing)?;
-    // Room for two lines, so that it runs out too.
-    if pieces::listed(alloc, bytes, &mut [0u8; 70])?.as_slice() != listing {
+    if !pieces::make(r.bytes(), listing) {
         writeln!(out, "THE PIECES DIFFER FROM THE LISTING")?;
     }
-    lent.numbers.resize(loads::PLACES, 0)?;
-    lent.words.resize(loads::PLACES, 0)?;
-    if !loads::is_loaded(listing, lent) {
+    // The recording isn't needed any more, so that its bytes make way for the listing.
+    r.hold(listing);
+    let count = listing.len();
+    // What isn't printed again there is told.
+    for b in lent.listing.iter_mut().take(count) {
+        *b = 0;
+    }
+    if !loads::is_loaded(r.bytes(), lent) {
         writeln!(out, "loaded otherwise")?;
     }
     Ok(())

@@ -36,10 +36,10 @@ pub record TickAt (bs : List ℕ) (from e t behind : ℕ) : Type 0 where
   pub place : behind ≡ from + suc (length field)
   pub short : behind ≤ from + 11
 
--- What is found is a tick mark and the place behind it. Where there is none, nothing is said.
-abbrev pub TickFound : (bs : List ℕ) (from e : ℕ) → Option (ℕ × ℕ) → Type 0
-TickFound bs from e (Some (t, behind)) = TickAt bs from e t behind
-TickFound bs from e None = Unit {0}
+-- What is found is the place behind the tick mark t. Where there is none, nothing is said.
+abbrev pub TickFound : (bs : List ℕ) (from e t : ℕ) → Option ℕ → Type 0
+TickFound bs from e t (Some behind) = TickAt bs from e t behind
+TickFound bs from e t None = Unit {0}
 
 -- What one pass finds is the line. Of anything else nothing is said.
 abbrev pub BreathFound : List ℕ → Option Entry → Type 0

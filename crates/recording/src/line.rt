@@ -150,23 +150,24 @@ pub(crate) fn read_any(bytes: &[u8]) -> Result<Entry, u64>
     read_fields(k + 1, &bytes[..k])
 }
 
-// The tick mark from a place on that the byte `end` ends, and the place behind both, where there is one.
-// It has room: ten digits and that byte. (The next tick is found from a place in a register; the number
-// isn't waited for.)
-fn read_tick_at(bytes: &[u8], from: usize, end: u8) -> Option<(u32, usize)>
+// The tick mark from a place on that the byte `end` ends goes into the lent number; the answer is the
+// place behind both, where there is one. It has room: ten digits and that byte. (The next tick is found
+// from a place in a register; the number isn't waited for.)
+fn read_tick_at(bytes: &[u8], from: usize, end: u8, tick: &mut u32) -> Option<usize>
     requires { from + 11 ≤ length bytes.now }
-    ensures { TickFound bytes.now from end result }
+    ensures { TickFound bytes.now from end tick.new result }
 {
     let d = leading_digits(&bytes[from..from + MOST_DIGITS]);
     let k = from + d.count;
     if bytes[k] != end {
         return None;
     }
-    let tick = tick_of(d.value)?;
+    let value = tick_of(d.value)?;
     if !is_begun(&bytes[from..k]) {
         return None;
     }
-    Some((tick, k + 1))
+    *tick = value;
+    Some(k + 1)
 }
 
 // The breath at the start of some bytes, in one pass; none where this finds none. Where they hold the
@@ -177,9 +178,10 @@ pub(crate) fn read_breath(bytes: &[u8]) -> Option<Entry>
     if bytes.len() < LONGEST_LINE {
         return None;
     }
-    let (onset, second) = read_tick_at(bytes, 0, b'\t')?;
-    let (peak, third) = read_tick_at(bytes, second, b'\t')?;
-    let (next, used) = read_tick_at(bytes, third, b'\n')?;
+    let (mut onset, mut peak, mut next) = (0, 0, 0);
+    let second = read_tick_at(bytes, 0, b'\t', &mut onset)?;
+    let third = read_tick_at(bytes, second, b'\t', &mut peak)?;
+    let used = read_tick_at(bytes, third, b'\n', &mut next)?;
     let breath = Breath::between(onset, peak, next);
     Some(Entry { breath, used })
 }

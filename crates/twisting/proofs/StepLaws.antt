@@ -12,7 +12,7 @@ use lib.Arith.{digits_lt}
 use lib.Dec.{leb, eqb}
 use lib.ListN.{length, get_or}
 use lib.Pow.{pow_pos, pow_mono, pow-add, high, low, shl-shr, shr-shr, shr_le, mod-pow-add, ones_split, ones_lt}
-use lib.Count.{count_leading_zeros, leading_length}
+use lib.Count.{count_leading_zeros, leading_top, leading_length}
 use lib.Bits.{bit_and, bit_or, and_mask, and_high, and_le_l, and_le_r, or_add_and}
 use borrow.Author.Tests.{leb-true, le-leb, lt-leb, eq-eqb, ne_eqb, eqb-true, eqb-false}
 use Rattle.slash.specs.Bits.{bits}
@@ -373,6 +373,9 @@ module _ (k : ℕ) (h : 2 ≤ k) (m : k ≤ 32) where
           go : Dec (n ≤ j) → n ≤ j
           go (yes q) = q
           go (no q) = let s : suc j ≤ n = omega arith in absurd (omega (arith, i, u, pow_mono s, pow-suc 2 j))
+
+  pub zeros_few : count_leading_zeros 64 (k - 1) < 64
+  zeros_few = let t = leading_top 64 (k - 1) (omega arith) (omega arith) in omega (arith, t.1)
 
   pub positions_are : 18446744073709551615 / 2 ^ count_leading_zeros 64 (k - 1) ≡ 2 ^ slash_bits k - 1
   positions_are =

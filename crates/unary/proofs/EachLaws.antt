@@ -1,12 +1,11 @@
 -- The vector form: its stops in their order, and that the operation stops as its words' check does. Assumes nothing.
-use mathlib.Core.Path.{◌≡◌, refl, sym, ap, ◌∙◌, subst⁻¹}
+use mathlib.Core.Path.{◌≡◌, refl, sym, ◌∙◌, subst⁻¹}
 use mathlib.Core.Bool.{true, false}
 use mathlib.Core.List.{List, map}
 use Prim.Native.Nat.{ℕ}
 use lib.ListN.{length}
 use borrow.Author.Tests.{eq-eqb, ne_eqb}
 use Rattle.std.specs.Prelude.{Ok, Err}
-use Rattle.std.specs.Result.{result_unwrap_or}
 use Rattle.slash.specs.Answers.{Outcome, stop, done, WhenDone}
 use Rattle.slash.specs.Steps.{or_zero}
 use Rattle.slash.specs.declared.answer.Stop.{Stop}

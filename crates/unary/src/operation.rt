@@ -111,7 +111,9 @@ pub fn is_unary(code: u64) -> bool
     matches!(code, NEGATE..=NORMALISE)
 }
 
-// The word that a code makes of w, if that is good.
+// The word that a code makes of w, if that is good. (Put in place of its calls: as a call, a place of a vector
+// that touches only a sign took a third as long again.)
+#[inline(always)]
 pub(crate) fn unary_word(f: Format, code: u64, w: u64) -> Result<u64, Stop>
     requires { (known f ≡ true) × (is_unary code ≡ true) }
     ensures { result ≡ unary_word f code w }
